@@ -1,0 +1,4 @@
+pub mod BlockLemmas
+pub mod LineLemmas
+pub mod TakesLemmas
+pub mod WriteLemmas

@@ -1,0 +1,9 @@
+pub mod AdapterState
+pub mod Faults
+pub mod Lines
+pub mod LinesLaw
+pub mod Longest
+pub mod ReadsOn
+pub mod SinkState
+pub mod SourceState
+pub mod Takes
