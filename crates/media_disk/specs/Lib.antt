@@ -1,0 +1,10 @@
+pub mod Content
+pub mod Counts
+pub mod Filled
+pub mod Halves
+pub mod Images
+pub mod Leaves
+pub mod Lists
+pub mod MemDisk
+pub mod Moments
+pub mod Record
