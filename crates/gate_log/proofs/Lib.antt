@@ -1,0 +1,5 @@
+mod AppendLemmas
+mod GateLemmas
+mod ReadLemmas
+mod StartLemmas
+mod TornLemmas

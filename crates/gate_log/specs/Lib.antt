@@ -1,0 +1,9 @@
+pub mod Framed
+pub mod Gates
+pub mod Places
+pub mod Crashes
+pub mod Spelling
+pub mod Reading
+pub mod OneReading
+pub mod Ranges
+pub mod Regions

@@ -1,0 +1,27 @@
+-- Where a region lies on a device, and where its parts lie in it.
+use Rattle.std.specs.Prelude.{◌⊎◌, ℕ, ◌+◌, ◌-◌, ◌≤◌, List, length, sum_by}
+use Rattle.std.specs.List.{AllByRecursion}
+use Rattle.media_disk.specs.Content.{part}
+use Rattle.gate_log.specs.declared.region.Region.{Region}
+use Rattle.gate_log.specs.declared.region.Tail.{Tail}
+
+-- the region's bytes
+abbrev pub region_of : Region → List ℕ → List ℕ
+region_of region bytes = part bytes region.at region.size
+
+-- what a batch takes: its gate, its length and its payload
+abbrev pub need_of : List ℕ → ℕ
+need_of payload = 5 + length payload
+
+-- the place of the closed gate behind these batches
+abbrev pub tail_of : List (List ℕ) → ℕ
+tail_of payloads = 9 + sum_by need_of payloads
+
+-- what the region has left behind that gate
+abbrev pub room_of : Region → Tail → ℕ
+room_of region tail = region.size - (tail.gate + 1)
+
+-- no pending range touches the region
+abbrev pub IsApart : Region → List (ℕ × ℕ) → Type 0
+IsApart region ranges =
+    AllByRecursion (λ range. (range.0 + range.1 ≤ region.at) ⊎ (region.at + region.size ≤ range.0)) ranges

@@ -1,0 +1,24 @@
+//! One gated region of a device: batches that are whole or not there, whenever the device stops.
+#![tactic(auto)]
+
+mod appending;
+mod batch;
+mod found;
+mod gate;
+mod laws;
+mod parse;
+mod reading;
+mod region;
+mod starting;
+mod through;
+
+pub use appending::{AppendFault, append};
+pub use batch::Batch;
+pub use found::{Found, Payload, RegionFault};
+pub use laws::one_reading;
+pub use reading::read_region;
+pub use region::{Region, Tail};
+pub use starting::start;
+
+#[cfg(test)]
+mod tests;

@@ -1,0 +1,45 @@
+//! Reads a region from its device.
+ghost use Rattle.std.specs.Prelude.{◌≡◌, ℕ, ◌+◌, ◌^◌, ◌<◌, ◌≤◌, List, IsErrOf};
+ghost use Rattle.hse_io.specs.Faults.{Rose};
+ghost use Rattle.gate_log.specs.Places.{region_of};
+ghost use Rattle.gate_log.specs.Reading.{IsReading, IsInside};
+
+use crate::parse::found_in;
+use crate::{Found, Region, RegionFault};
+use media_disk::Disk;
+use std::alloc::Global;
+
+/// What the region holds: `None` where its head is closed, else its sequence, its batches up to the
+/// first closed gate, and the place of that gate. `Damaged` has the place of the length of the
+/// first batch that does not lie inside the region. No region has two readings (`one_reading`), so
+/// each answer comes exactly where it is true, but for `Device`, which comes only where the device
+/// failed, and `NoMemory`.
+///
+/// The conditions: the region has at least 10 bytes and lies inside the device.
+pub fn read_region<D: Disk>(
+    alloc: Global,
+    disk: &mut D,
+    region: &Region,
+) -> Result<Option<Found>, RegionFault>
+    requires inside { region.now.at + region.now.size ≤ D.extent disk.old }
+    requires fits { region.now.at + region.now.size < 2 ^ 64 }
+    requires size { 10 ≤ region.now.size }
+
+    ensures found { D.tells → IsReading (region_of region.now (D.seen disk.old)) result }
+    ensures inside { IsInside region.now.size result }
+    ensures device { IsErrOf result RegionFault.Device
+        → Rose (D.faults disk.old) (D.faults disk.new) }
+    ensures later { D.faults disk.old ≤ D.faults disk.new }
+    ensures extent { D.extent disk.new ≡ D.extent disk.old }
+    ensures clock { D.moment disk.old ≤ D.moment disk.new }
+    ensures seen { D.tells → D.seen disk.new ≡ D.seen disk.old }
+    ensures pending { D.tells → D.pending disk.new ≡ D.pending disk.old }
+
+    // A crash leaves only what it could have left before the call.
+    ensures crash { D.tells → (clock : ℕ) (image : List ℕ) → clock ≤ D.moment disk.old
+        → D.could disk.new clock image → D.could disk.old clock image }
+{
+    let mut bytes = vec![in alloc; 0; region.size as usize]?;
+    disk.read(region.at, &mut bytes)?;
+    found_in(alloc, &bytes)
+}
