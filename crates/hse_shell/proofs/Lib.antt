@@ -1,0 +1,13 @@
+pub mod AfterLemmas
+pub mod EndLemmas
+pub mod EngineLemmas
+pub mod EntryLemmas
+pub mod GrammarLemmas
+pub mod LogLemmas
+pub mod Progress
+pub mod RefusalLemmas
+pub mod RowsLemmas
+pub mod RunLemmas
+pub mod SaysLemmas
+pub mod SortedRows
+pub mod TurnLemmas

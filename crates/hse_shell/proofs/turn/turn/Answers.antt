@@ -1,0 +1,27 @@
+use Rattle.std.proofs.Common.{refl}
+use Rattle.std.proofs.lemmas.Result.{on_ok_weaker}
+use Rattle.hse_shell.specs.Grammar.{puts, unknown}
+use Rattle.hse_shell.specs.Replies.{bad_line}
+use Rattle.hse_shell.proofs.TurnLemmas.{serves_put}
+use Rattle.hse_shell.proofs.turn.turn.Goals as goal
+
+pub returns-in-Put-clause-turned : goal.returns-in-Put-clause-turned
+returns-in-Put-clause-turned g c = on_ok_weaker c.put_line.result (λ said m s.
+    let line = said m s.stands in
+    record {
+      meaning = puts c.in-Put.key.now c.in-Put.value.now;
+      answer = line.answer;
+      means = c.in-Put.ensures.means;
+      turned = serves_put g.D.Disk c.args.disk.now c.args.engine.now c.put_line.new.engine m line.tail line.marks s
+          c.in-Put.key.now c.in-Put.value.now line.answer line.answers;
+      said = line.said;
+    }) c.put_line.ensures.said
+
+pub returns-in-Unknown-clause-turned : goal.returns-in-Unknown-clause-turned
+returns-in-Unknown-clause-turned g c = on_ok_weaker c.unknown_line.result (λ said m s. record {
+  meaning = unknown;
+  answer = bad_line;
+  means = c.in-Unknown.ensures.means;
+  turned = record { step = (refl, refl); serves = s };
+  said = said;
+}) c.unknown_line.ensures.said

@@ -1,0 +1,16 @@
+pub mod Change
+pub mod Commands
+pub mod Ending
+pub mod Grammar
+pub mod LogText
+pub mod Logged
+pub mod Machine
+pub mod Pieces
+pub mod Replies
+pub mod ReplyView
+pub mod Rows
+pub mod Runs
+pub mod SoFar
+pub mod Stands
+pub mod Stored
+pub mod Turns

@@ -1,0 +1,88 @@
+-- The snapshot machine: what the lines of a script do, a step a line.
+use Rattle.std.specs.Prelude.{◌≡◌, ℕ, ◌+◌, ◌-◌, nat_lt, if◌then◌else◌, List, [], ◌∷◌, ◌++◌, length, drop, Option, Some, None}
+use Rattle.std.specs.FinMap as map
+use Rattle.hse_shell.specs.Change.{Change, put, Contents, after}
+use Rattle.hse_shell.specs.Grammar.{Meaning, puts, gets, syncs, unknown}
+use Rattle.hse_shell.specs.LogText.{charge_of, charges_of}
+use Rattle.hse_shell.specs.Replies.{Answer, ok, value, none, bad_line, no_memory, key_length, log_full}
+
+-- A state of the machine: the commits since the base in order, each of one change, and how many of them the last
+-- finished sync had.
+pub record Machine : Type 0 where
+  pub history : List Change
+  pub synced : ℕ
+
+-- the number of the base
+abbrev pub base_number : ℕ
+base_number = 1
+
+-- the base, before any commit
+abbrev pub opening : Machine
+opening = record { history = []; synced = 0 }
+
+-- the last number of the history
+abbrev pub number_of : Machine → ℕ
+number_of m = base_number + length m.history
+
+-- what the store holds now
+abbrev pub contents_of : Machine → Contents
+contents_of m = after map.empty m.history
+
+-- the most bytes that a key has
+abbrev pub longest_key : ℕ
+longest_key = 1344
+
+-- the most that the charges of all commits sum to
+abbrev pub room : ℕ
+room = 4194240
+
+abbrev pub room_left : Machine → ℕ
+room_left m = room - charges_of m.history
+
+-- a key's length outside the limit
+abbrev pub key_refusal : List ℕ → Option Answer → Option Answer
+key_refusal key otherwise = if nat_lt longest_key (length key) then Some (key_length (length key)) else otherwise
+
+-- a change that the log has no room for
+abbrev pub log_refusal : Machine → Change → Option Answer
+log_refusal m change =
+    if nat_lt (room_left m) (charge_of change) then Some (log_full (charge_of change) (room_left m)) else None
+
+-- The first refusal of a line in the order of the table, where there is one.
+abbrev pub refusal : Machine → Meaning → Option Answer
+refusal m (puts key bytes) = key_refusal key (log_refusal m (put key bytes))
+refusal m (gets key) = key_refusal key None
+refusal m syncs = None
+refusal m unknown = Some bad_line
+
+-- the state with one commit more
+abbrev pub committed : Machine → Change → Machine
+committed m change = record { history = m.history ++ change ∷ []; synced = m.synced }
+
+-- the state after a finished sync
+abbrev pub all_synced : Machine → Machine
+all_synced m = record { history = m.history; synced = length m.history }
+
+-- From old a line may get this answer, and lead to new.
+abbrev pub Step : Machine → Meaning → Answer → Machine → Type 0
+-- any line may be refused memory, and then changes nothing
+Step old line no_memory new = new ≡ old
+Step old (puts key bytes) (ok number) new =
+    (refusal old (puts key bytes) ≡ None) × (number ≡ number_of old + 1) × (new ≡ committed old (put key bytes))
+Step old (gets key) (value bytes) new =
+    (refusal old (gets key) ≡ None) × (map.get (contents_of old) key ≡ Some bytes) × (new ≡ old)
+Step old (gets key) none new =
+    (refusal old (gets key) ≡ None) × (map.get (contents_of old) key ≡ None) × (new ≡ old)
+Step old syncs (ok number) new = (number ≡ number_of old) × (new ≡ all_synced old)
+-- any other answer is the line's refusal, and changes nothing
+Step old line answer new = (refusal old line ≡ Some answer) × (new ≡ old)
+
+-- where a line with this answer leads
+abbrev pub led_to : Machine → Meaning → Answer → Machine
+led_to m (puts key bytes) (ok number) = committed m (put key bytes)
+led_to m syncs (ok number) = all_synced m
+led_to m line answer = m
+
+-- the commits since the last finished sync
+abbrev pub unsynced : Machine → List Change
+unsynced m = drop m.synced m.history

@@ -1,0 +1,53 @@
+//! Entries of the log.
+ghost use Rattle.std.specs.Prelude.{◌≡◌, ◌<◌, ◌^◌, ◌++◌, length, OnOk, OnErr};
+ghost use Rattle.hse_shell.specs.Change.{put};
+ghost use Rattle.hse_shell.specs.LogText.{entry_text, charge_of};
+
+use crate::append::append;
+use hse_io::NoMemory;
+
+/// The id of the one store.
+const STORE: u64 = 1;
+
+/// How many changes an entry has here.
+const CHANGES: u32 = 1;
+
+/// The first byte of a put.
+const PUT: u8 = 1;
+
+/// Appends the entry of a put under this number. Where memory is refused nothing is appended.
+pub(crate) fn push_put(
+    into: &mut Vec<u8>,
+    number: u64,
+    key: &[u8],
+    value: &[u8],
+) -> Result<(), NoMemory>
+    requires key_fits { length key.now < 2 ^ 16 }
+    requires value_fits { length value.now < 2 ^ 32 }
+    ensures written { OnOk result
+        (into.new.items ≡ into.old.items ++ entry_text number (put key.now value.now)) }
+    ensures unchanged { OnErr result (into.new.items ≡ into.old.items) }
+{
+    append(
+        into,
+        &[
+            &number.to_be_bytes(),
+            &CHANGES.to_be_bytes(),
+            &[PUT],
+            &STORE.to_be_bytes(),
+            &(key.len() as u16).to_be_bytes(),
+            key,
+            &(value.len() as u32).to_be_bytes(),
+            value,
+        ],
+    )
+}
+
+/// How many bytes of the log's room the entry of a put takes.
+pub(crate) fn charge_of_put(key: &[u8], value: &[u8]) -> u64
+    requires key_fits { length key.now < 2 ^ 16 }
+    requires value_fits { length value.now < 2 ^ 32 }
+    ensures { result ≡ charge_of (put key.now value.now) }
+{
+    12 + (15 + key.len() as u64 + value.len() as u64) + 32
+}

@@ -1,0 +1,21 @@
+//! Scripts: lines in, replies out, and a log that holds what they stored.
+#![tactic(auto)]
+
+mod append;
+mod command;
+mod ending;
+mod engine;
+mod entry;
+mod log;
+mod open;
+mod reply;
+mod rows;
+mod run;
+mod script;
+#[cfg(test)]
+mod tests;
+mod turn;
+
+pub use command::lines_have_one_meaning;
+pub use ending::tell;
+pub use run::run_script;
