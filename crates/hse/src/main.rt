@@ -1,0 +1,54 @@
+//! `hse run PATH`: a store on a file, asked by a script on standard input that is answered on standard output.
+#![tactic(auto)]
+
+mod file_disk;
+#[cfg(test)]
+mod tests;
+mod top;
+
+use file_disk::FileDisk;
+use hse_io::{NoMemory, Status, StdSink, StdSource};
+use hse_shell::tell;
+use std::alloc::Global;
+use std::fs::File;
+use std::process::ExitCode;
+use std::rt::{Env, Files};
+use std::{env, io};
+use top::{device_path, top};
+
+/// Runs the program over the real world. An `Err` is memory that was refused before anything was done.
+fn run<R>(rt: &R, words: &[String]) -> Result<Status, NoMemory>
+where
+    R: Files<File = File> + AllocGlobal + Print + Input + Clone,
+{
+    let alloc = rt.alloc();
+    let mut source = StdSource::new(alloc, rt.reader())?;
+    let mut sink = StdSink::new(io::writer(rt));
+    let mut disk = FileDisk::at(rt, alloc, device_path(words))?;
+    let outcome = top(alloc, words, &mut source, &mut sink, &mut disk);
+    Ok(outcome.status)
+}
+
+/// The program's words. Words that are not text are none of the program's, so there are none.
+fn words_of<R: Env + AllocGlobal>(rt: &R) -> Result<Vec<String>, NoMemory> {
+    match env::args(rt) {
+        Ok(words) => Ok(words.collect(rt.alloc())?),
+        Err(error) if error.kind() == io::ErrorKind::OutOfMemory => Err(NoMemory),
+        Err(_) => Ok(Vec::new(rt.alloc())),
+    }
+}
+
+fn main(rt: HostRuntime) -> ExitCode {
+    let ended = match words_of(&rt) {
+        Ok(words) => run(&rt, &words),
+        Err(NoMemory) => Err(NoMemory),
+    };
+    let status = match ended {
+        Ok(status) => status,
+        Err(NoMemory) => {
+            tell(&mut StdSink::new(io::writer(&rt)), Status::NoMemory);
+            Status::NoMemory
+        }
+    };
+    ExitCode::from(status as u8)
+}
