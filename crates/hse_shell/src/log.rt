@@ -44,7 +44,7 @@ fn push_reserved(marks: &mut Vec<Mark>, mark: Mark)
 }
 
 impl Engine {
-    ghost use Rattle.std.specs.Prelude.{◌≡◌, ◌<◌, ◌≤◌, ℕ, length, IfOk, OnOk, IsErrOf, vec_len, vec_capacity};
+    ghost use Rattle.std.specs.Prelude.{◌≡◌, ◌<◌, ◌≤◌, ◌++◌, ◌∷◌, [], ℕ, length, Ok, IfOk, OnOk, IsErrOf, vec_len, vec_capacity};
     ghost use Rattle.hse_io.specs.Faults.{Rose, HasCause};
     ghost use Rattle.hse_shell.specs.declared.log.FlushFault.{FlushFault};
     ghost use Rattle.hse_shell.specs.Machine.{Machine, all_synced};
@@ -87,7 +87,10 @@ impl Engine {
     // Notes that all commits are safe from now on, in room that was made before.
     pub(crate) fn note<D: Disk>(&mut self, disk: &D)
         requires { vec_len self.old.marks < vec_capacity self.old.marks }
-        ensures { (m : Machine) → m.synced ≡ length m.history
+        ensures noted { self.new.marks.items ≡ self.old.marks.items
+            ++ (record { life = 0; number = self.old.number; moment = D.moment disk.now }) ∷ [] }
+        ensures number { self.new.number ≡ self.old.number }
+        ensures serves { (m : Machine) → m.synced ≡ length m.history
             → Serves D.Disk disk.now self.old m → Serves D.Disk disk.now self.new m }
     {
         let mark = Mark {
@@ -107,6 +110,9 @@ impl Engine {
         requires { D.extent disk.old ≡ device_size }
         ensures answers { IfOk result (λ reply. (m : Machine) → Serves D.Disk disk.old self.old m
             → ServesLine D.Disk m syncs (answer_of reply) disk.new self.new) }
+        // A sync that is answered by a number leaves a mark of that number.
+        ensures noted { (n : ℕ) → result ≡ Ok (Reply.Ok n) → self.new.marks.items ≡ self.old.marks.items
+            ++ (record { life = 0; number = n; moment = D.moment disk.new }) ∷ [] }
         ensures cause { HasCause (D.faults disk.old) (D.faults disk.new) result }
         ensures extent { D.extent disk.new ≡ D.extent disk.old }
     {

@@ -13,7 +13,7 @@ invariant_of-engine g c =
 pub returns-clause-serves : goal.returns-clause-serves
 returns-clause-serves g c =
     let four : length c.in-Ok-from_slice.waiting.items ≤ 4 = omega (arith, ap length c.in-Ok-from_slice.ensures.items) in
-    c.note.ensures opening refl (record {
+    c.note.ensures.serves opening refl (record {
       stands = record {
         rows = c.new.ensures;
         number = refl;

@@ -4,8 +4,8 @@ use Rattle.hse_shell.specs.Logged.{IsMark}
 use Rattle.hse_shell.proofs.LogLemmas.{note_marks}
 use Rattle.hse_shell.proofs.engine.Engine.note.Goals as goal
 
-pub returns : goal.returns
-returns g c m all s = record {
+pub returns-clause-serves : goal.returns-clause-serves
+returns-clause-serves g c m all s = record {
   stands = record {
     rows = s.stands.rows;
     number = s.stands.number;
