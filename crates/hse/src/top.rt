@@ -1,10 +1,10 @@
 //! The program's words, and what they ask for.
-ghost use Rattle.std.specs.Prelude.{◌≡◌, ◌↔◌, [], map, codes, IsTrue};
+ghost use Rattle.std.specs.Prelude.{◌≡◌, ◌↔◌, ◌⊎◌, [], map, codes, IsTrue};
 ghost use Rattle.std.specs.String.{string_bytes};
 ghost use Rattle.hse_io.specs.Faults.{Rose};
-ghost use Rattle.hse_shell.specs.Ending.{status_text, AppendsOrFails, EndsRun};
+ghost use Rattle.hse_shell.specs.Ending.{status_text, AppendsOrFails};
+ghost use Rattle.hse_shell.specs.Ends.{Ends, IsGoodInput};
 ghost use Rattle.hse_shell.specs.Logged.{WasEmptyOrStays};
-ghost use Rattle.hse_shell.specs.SoFar.{RanToEnd, IsNotEmpty};
 ghost use Rattle.hse.specs.Words.{AsksRun, IsPath, third_of};
 
 use hse_io::{Outcome, Sink, Source, Status};
@@ -66,17 +66,19 @@ pub fn top<S: Source, K: Sink, D: Disk>(
         → AppendsOrFails (K.faults sink.old) (K.faults sink.new)
         (K.contents sink.old) (K.contents sink.new) (status_text Status.Usage) }
 
-    // For `run` the outcome, what is written and the device are those of the script's run.
-    ensures done { result.status ≡ Status.Done → RanToEnd D.Disk (S.remaining source.old) (S.remaining source.new)
-        (K.contents sink.old) (K.contents sink.new) disk.new }
+    // For `run` the outcome, what is written and the device are those of the script's run, by its status.
+    ensures run { AsksRun (map string_bytes words.now) → Ends D.Disk result.status
+        (record { device = disk.old; input = S.remaining source.old; held = K.contents sink.old })
+        (S.remaining source.new) (K.contents sink.new) (K.faults sink.old) (K.faults sink.new) disk.new }
     ensures read { result.status ≡ Status.ReadFault → Rose (S.faults source.old) (S.faults source.new) }
     ensures write { result.status ≡ Status.WriteFault → Rose (K.faults sink.old) (K.faults sink.new) }
     ensures device { result.status ≡ Status.DeviceFault → Rose (D.faults disk.old) (D.faults disk.new) }
-    ensures not_empty { result.status ≡ Status.NotEmpty → IsNotEmpty D.Disk disk.old disk.new
-        (K.faults sink.old) (K.faults sink.new) (K.contents sink.old) (K.contents sink.new) }
-    ensures empty { result.status ≡ Status.Done → D.tells → D.seen disk.old ≡ [] }
+    ensures complete { AsksRun (map string_bytes words.now)
+        → D.tells → D.seen disk.old ≡ [] → IsGoodInput (S.remaining source.old)
+        → ¬ Rose (S.faults source.old) (S.faults source.new) → ¬ Rose (K.faults sink.old) (K.faults sink.new)
+        → ¬ Rose (D.faults disk.old) (D.faults disk.new)
+        → (result.status ≡ Status.Done) ⊎ (result.status ≡ Status.NoMemory) }
     ensures kept { WasEmptyOrStays D.Disk disk.old disk.new }
-    ensures ends { AsksRun (map string_bytes words.now) → EndsRun result.status }
     ensures marks { result.marks.items ≡ [] }
 {
     if !asks_run(words) {

@@ -1,5 +1,5 @@
 pub mod AfterLemmas
-pub mod EndLemmas
+pub mod CompleteLemmas
 pub mod EngineLemmas
 pub mod EntryLemmas
 pub mod GrammarLemmas
@@ -10,4 +10,5 @@ pub mod RowsLemmas
 pub mod RunLemmas
 pub mod SaysLemmas
 pub mod SortedRows
+pub mod StopLemmas
 pub mod TurnLemmas

@@ -1,8 +1,10 @@
--- A run that goes on by one line.
-use Rattle.std.proofs.Common.{◌≡◌, ℕ, List, [], ◌∷◌, ◌++◌, Option, Some, None, refl, sym, ap, subst, ◌∙◌, append_assoc, IfSome}
+-- A run that goes on by one line, and ends.
+use Rattle.std.proofs.Common.{◌≡◌, ℕ, ◌+◌, List, [], ◌∷◌, ◌++◌, length, Option, Some, None, refl, sym, ap, subst, ◌∙◌, append_assoc, IfSome, arith}
 use Rattle.std.specs.Prelude.{Ok, flat_map}
 use Rattle.std.specs.Io.KnownBytes.{Appends}
+use Rattle.std.specs.List.{AllByRecursion}
 use Rattle.std.proofs.lemmas.List.Concat.{flat_map-append}
+use Rattle.std.proofs.lemmas.List.Sums.{sum_by_push}
 use Rattle.std.proofs.lemmas.List.{append-nil}
 use Rattle.hse_io.specs.declared.source.Got.TheVariants.{Text, Ended}
 use Rattle.hse_io.specs.Lines.{after_line, lines_of}
@@ -10,12 +12,13 @@ use Rattle.hse_io.specs.LinesLaw.{lines_of-first}
 use Rattle.hse_io.specs.Takes.{Takes}
 use Rattle.media_disk.specs.declared.disk.Disk.{Ghosts}
 use Rattle.hse_shell.specs.Grammar.{Meaning, Means}
-use Rattle.hse_shell.specs.Replies.{Answer, answer_line, opened_text, closed_text}
-use Rattle.hse_shell.specs.Machine.{Machine, Step, opening, led_to, base_number, number_of}
+use Rattle.hse_shell.specs.Replies.{Answer, answer_line, opened_text}
+use Rattle.hse_shell.specs.Machine.{Machine, Step, opening, led_to, base_number}
 use Rattle.hse_shell.specs.Logged.{Serves}
 use Rattle.hse_shell.specs.Runs.{Run, replies}
-use Rattle.hse_shell.specs.Turns.{Turned}
-use Rattle.hse_shell.specs.SoFar.{Took, SoFar, Closed, RanToEnd}
+use Rattle.hse_shell.specs.Turns.{Replied}
+use Rattle.hse_shell.specs.Ending.{AppendsFront}
+use Rattle.hse_shell.specs.SoFar.{Start, Took, Ran, SoFar, IsShort, script_length}
 use Rattle.hse_shell.specs.declared.engine.Engine.{Engine}
 
 -- one line and its answer more
@@ -35,8 +38,29 @@ Appends-both (Some b) None after first more one two = absurd one
 Appends-both (Some b) (Some m) None first more one two = absurd two
 Appends-both (Some b) (Some m) (Some a) first more one two = two ∙ ap (λ (l : List ℕ). l ++ more) one ∙ append_assoc b first more
 
+-- what stays is appended to by nothing
+pub Appends-none : (before : Option (List ℕ)) → Appends before before []
+Appends-none None = tt
+Appends-none (Some b) = sym (append-nil b)
+
+-- nothing is appended after the rest
+pub Appends-then_none : (before between after : Option (List ℕ)) (first : List ℕ) → Appends before between first → Appends between after [] → Appends before after first
+Appends-then_none before between after first one two =
+    subst (Appends before after) (append-nil first) (Appends-both before between after first [] one two)
+
+-- all of a text, and a front of what follows it
+pub AppendsFront-behind : (before between after : Option (List ℕ)) (first more rest : List ℕ) → Appends before between first → AppendsFront between after more
+    → AppendsFront before after (first ++ (more ++ rest))
+AppendsFront-behind before between after first more rest one two = record {
+  front = first ++ two.front;
+  rest = two.rest ++ rest;
+  parts = ap (λ (l : List ℕ). first ++ (l ++ rest)) two.parts ∙ ap (λ (l : List ℕ). first ++ l) (append_assoc two.front two.rest rest)
+      ∙ sym (append_assoc first two.front (two.rest ++ rest));
+  appended = Appends-both before between after first two.front one two.appended;
+}
+
 -- a line was taken of what was left
-took_line : (input left now : Option (List ℕ)) (lines : List (List ℕ)) (line : List ℕ)
+pub took_line : (input left now : Option (List ℕ)) (lines : List (List ℕ)) (line : List ℕ)
     → Took input lines left → IfSome left (λ all. Takes all (Ok Text) line now) → Took input (lines ++ line ∷ []) now
 took_line None left now lines line took takes = tt
 took_line (Some all) None now lines line (rest, is, parts) takes = absurd (cc (is))
@@ -51,7 +75,7 @@ took_line (Some all) (Some left) now lines line (rest, is, parts) (some, first, 
     )
 
 -- nothing was left
-took_end : (input left now : Option (List ℕ)) (lines : List (List ℕ)) (line : List ℕ)
+pub took_end : (input left now : Option (List ℕ)) (lines : List (List ℕ)) (line : List ℕ)
     → Took input lines left → IfSome left (λ all. Takes all (Ok Ended) line now) → Took input lines now × IfSome input (λ all. now ≡ Some [])
 took_end None left now lines line took takes = (tt, tt)
 took_end (Some all) None now lines line (rest, is, parts) takes = absurd (cc (is))
@@ -59,72 +83,91 @@ took_end (Some all) (Some left) now lines line (rest, is, parts) (none, next) =
     let same : left ≡ rest = cc (is) in
     (([], next, parts ∙ ap (λ (r : List ℕ). lines ++ lines_of r) (sym same ∙ none)), next)
 
-replies-push : (answers : List Answer) (answer : Answer) → replies (answers ++ answer ∷ []) ≡ replies answers ++ answer_line answer
+pub replies-push : (answers : List Answer) (answer : Answer) → replies (answers ++ answer ∷ []) ≡ replies answers ++ answer_line answer
 replies-push answers answer =
     ap (λ (l : List ℕ). opened_text base_number ++ l) (flat_map-append answer_line answers (answer ∷ []))
     ∙ ap (λ (l : List ℕ). opened_text base_number ++ (flat_map answer_line answers ++ l)) (append-nil (answer_line answer))
     ∙ sym (append_assoc (opened_text base_number) (flat_map answer_line answers) (answer_line answer))
 
-module _ {D : Type 0} (g : Ghosts D) (input left now before between after : Option (List ℕ)) (old new : D) (engine next : Engine) where
-  -- one line more, its reply written
-  pub so_far_more : (line text : List ℕ) (s : SoFar g input left before between old engine)
-      → IfSome left (λ all. Takes all (Ok Text) line now) → Turned g s.state line [] text new next → Appends between after text
-      → SoFar g input now before after new next
-  so_far_more line text s takes t wrote = record {
-    lines = s.lines ++ line ∷ [];
-    answers = s.answers ++ t.answer ∷ [];
-    state = led_to s.state t.meaning t.answer;
-    run = Run-push opening s.state (led_to s.state t.meaning t.answer) s.lines s.answers line t.answer t.meaning s.run t.means t.turned.step;
-    serves = t.turned.serves;
-    took = took_line input left now s.lines line s.took takes;
-    wrote = subst (Appends before after) (sym (replies-push s.answers t.answer))
-        (Appends-both before between after (replies s.answers) (answer_line t.answer) s.wrote (subst (Appends between after) t.said wrote));
+-- one line more
+pub short-push : (lines : List (List ℕ)) (line : List ℕ) → AllByRecursion IsShort lines → IsShort line → AllByRecursion IsShort (lines ++ line ∷ [])
+short-push [] line all short = (short, tt)
+short-push (first ∷ lines) line all short = (all.0, short-push lines line all.1 short)
+
+pub script_length-push : (lines : List (List ℕ)) (line : List ℕ) → script_length (lines ++ line ∷ []) ≡ script_length lines + (length line + 1)
+script_length-push lines line = sum_by_push (λ (l : List ℕ). length l + 1) lines line
+
+module _ {D : Type 0} (g : Ghosts D) (start : Start D) (left now : Option (List ℕ)) where
+  -- one line more, with an answer of the machine's
+  abbrev pub ran_more : (line : List ℕ) (r : Ran g start left) → IfSome left (λ all. Takes all (Ok Text) line now) → IsShort line
+      → (meaning : Meaning) (answer : Answer) → Means line meaning → Step r.state meaning answer (led_to r.state meaning answer) → Ran g start now
+  ran_more line r takes short meaning answer means step = record {
+    lines = r.lines ++ line ∷ [];
+    answers = r.answers ++ answer ∷ [];
+    state = led_to r.state meaning answer;
+    run = Run-push opening r.state (led_to r.state meaning answer) r.lines r.answers line answer meaning r.run means step;
+    took = took_line start.input left now r.lines line r.took takes;
+    short = short-push r.lines line r.short short;
+    empty = r.empty;
   }
 
-module _ {D : Type 0} (g : Ghosts D) (input left now before after : Option (List ℕ)) (disk : D) (engine : Engine) where
   -- the input is at its end
-  pub so_far_ended : (line : List ℕ) → SoFar g input left before after disk engine → IfSome left (λ all. Takes all (Ok Ended) line now)
-      → SoFar g input now before after disk engine × IfSome input (λ all. now ≡ Some [])
-  so_far_ended line s takes =
-      let both = took_end input left now s.lines line s.took takes in
-      (record { lines = s.lines; answers = s.answers; state = s.state; run = s.run; serves = s.serves; took = both.0; wrote = s.wrote }, both.1)
-
-took_all : (input left : Option (List ℕ)) (lines : List (List ℕ)) → Took input lines left → IfSome input (λ all. left ≡ Some [])
-    → IfSome input (λ all. (lines ≡ lines_of all) × (left ≡ Some []))
-took_all None left lines took end = tt
-took_all (Some all) left lines (rest, is, parts) end =
-    let none : rest ≡ [] = cc (is, end) in
-    (sym (append-nil lines) ∙ sym (parts ∙ ap (λ (r : List ℕ). lines ++ lines_of r) none), end)
-
-module _ {D : Type 0} (g : Ghosts D) (input left before between after : Option (List ℕ)) (mid disk : D) (engine : Engine) where
-  -- the input was at its end, and the engine was closed
-  pub ran_to_end : (s : SoFar g input left before between mid engine) → IfSome input (λ all. left ≡ Some [])
-      → Closed g s.state between after disk → RanToEnd g input left before after disk
-  ran_to_end s end closed = record {
-    lines = s.lines;
-    answers = s.answers;
-    last = s.state;
-    run = s.run;
-    took = took_all input left s.lines s.took end;
-    wrote = Appends-both before between after (replies s.answers) (closed_text (number_of s.state)) s.wrote closed.wrote;
-    stores = closed.stores;
-    durable = closed.durable;
+  abbrev pub ran_ended : (line : List ℕ) (r : Ran g start left) → IfSome left (λ all. Takes all (Ok Ended) line now) → Ran g start now
+  ran_ended line r takes = record {
+    lines = r.lines;
+    answers = r.answers;
+    state = r.state;
+    run = r.run;
+    took = (took_end start.input left now r.lines line r.took takes).0;
+    short = r.short;
+    empty = r.empty;
   }
 
-took_none : (input : Option (List ℕ)) → Took input [] input
+module _ {D : Type 0} (g : Ghosts D) (start : Start D) (left now between after : Option (List ℕ)) (old new : D) (engine next : Engine) (taken : ℕ) where
+  -- one line more, its reply written
+  pub so_far_more : (line : List ℕ) (s : SoFar g start left between old engine taken)
+      → IfSome left (λ all. Takes all (Ok Text) line now) → IsShort line → Replied g s.ran.state line between after new next
+      → SoFar g start now after new next (taken + length line + 1)
+  so_far_more line s takes short r = record {
+    ran = ran_more g start left now line s.ran takes short r.meaning r.answer r.means r.turned.step;
+    wrote = subst (Appends start.held after) (sym (replies-push s.ran.answers r.answer))
+        (Appends-both start.held between after (replies s.ran.answers) (answer_line r.answer) s.wrote r.wrote);
+    counted = omega (arith, s.counted, script_length-push s.ran.lines line);
+    serves = r.turned.serves;
+  }
+
+module _ {D : Type 0} (g : Ghosts D) (start : Start D) (left now after : Option (List ℕ)) (disk : D) (engine : Engine) (taken : ℕ) where
+  -- the input is at its end
+  pub so_far_ended : (line : List ℕ) → SoFar g start left after disk engine taken → IfSome left (λ all. Takes all (Ok Ended) line now)
+      → SoFar g start now after disk engine taken × IfSome start.input (λ all. now ≡ Some [])
+  so_far_ended line s takes = (
+    record { ran = ran_ended g start left now line s.ran takes; wrote = s.wrote; counted = s.counted; serves = s.serves },
+    (took_end start.input left now s.ran.lines line s.ran.took takes).1,
+  )
+
+pub took_none : (input : Option (List ℕ)) → Took input [] input
 took_none None = tt
 took_none (Some all) = (all, refl, refl)
 
-module _ {D : Type 0} (g : Ghosts D) (input before after : Option (List ℕ)) (disk : D) (engine : Engine) where
-  -- the opening's line was written, and no line was taken
-  pub so_far_opened : Serves g disk engine opening → (number : ℕ) → number ≡ base_number → Appends before after (opened_text number)
-      → SoFar g input input before after disk engine
-  so_far_opened serves number base wrote = record {
+module _ {D : Type 0} (g : Ghosts D) (start : Start D) (empty : g.tells → g.seen start.device ≡ []) where
+  -- no line was taken
+  abbrev pub ran_none : Ran g start start.input
+  ran_none = record {
     lines = [];
     answers = [];
     state = opening;
     run = refl;
+    took = took_none start.input;
+    short = tt;
+    empty = empty;
+  }
+
+  -- and the opening's line was written
+  pub so_far_opened : (after : Option (List ℕ)) (disk : D) (engine : Engine) → Serves g disk engine opening → (number : ℕ) → number ≡ base_number → Appends start.held after (opened_text number)
+      → SoFar g start start.input after disk engine 0
+  so_far_opened after disk engine serves number base wrote = record {
+    ran = ran_none;
+    wrote = subst (Appends start.held after) (ap opened_text base ∙ sym (append-nil (opened_text base_number))) wrote;
+    counted = refl;
     serves = serves;
-    took = took_none input;
-    wrote = subst (Appends before after) (ap opened_text base ∙ sym (append-nil (opened_text base_number))) wrote;
   }

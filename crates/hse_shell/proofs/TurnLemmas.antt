@@ -4,10 +4,10 @@ use Rattle.std.specs.List.{AllByRecursion}
 use Rattle.std.proofs.lemmas.List.{take-append-le}
 use Rattle.hse_io.specs.declared.outcome.Mark.{Mark}
 use Rattle.media_disk.specs.declared.disk.Disk.{Ghosts}
-use Rattle.hse_shell.specs.Change.{Change, put}
-use Rattle.hse_shell.specs.Grammar.{puts, gets}
+use Rattle.hse_shell.specs.Change.{Change, put, del}
+use Rattle.hse_shell.specs.Grammar.{puts, dels, gets}
 use Rattle.hse_shell.specs.LogText.{Says}
-use Rattle.hse_shell.specs.Replies.{Answer, ok, value, none, bad_line, no_memory, key_length, log_full}
+use Rattle.hse_shell.specs.Replies.{Answer, no_reply, ok, value, none, bad_line, no_memory, key_length, log_full}
 use Rattle.hse_shell.specs.Machine.{Machine, committed}
 use Rattle.hse_shell.specs.Stands.{Stands, Answers}
 use Rattle.hse_shell.specs.Stored.{Stores}
@@ -68,6 +68,7 @@ module _ {D : Type 0} (g : Ghosts D) (disk : D) (old new : Engine) (m : Machine)
 
   -- the answer of a put
   pub serves_put : (key bytes : List ℕ) (answer : Answer) → Answers m (puts key bytes) answer new → ServesLine g m (puts key bytes) answer disk new
+  serves_put key bytes no_reply a = record { step = a.step; serves = serves_still a.stands }
   serves_put key bytes (ok number) a = record { step = a.step; serves = serves_committed (put key bytes) a.stands }
   serves_put key bytes (value v) a = record { step = a.step; serves = serves_still a.stands }
   serves_put key bytes none a = record { step = a.step; serves = serves_still a.stands }
@@ -75,6 +76,17 @@ module _ {D : Type 0} (g : Ghosts D) (disk : D) (old new : Engine) (m : Machine)
   serves_put key bytes no_memory a = record { step = a.step; serves = serves_still a.stands }
   serves_put key bytes (key_length n) a = record { step = a.step; serves = serves_still a.stands }
   serves_put key bytes (log_full need room) a = record { step = a.step; serves = serves_still a.stands }
+
+  -- the answer of a deletion
+  pub serves_del : (key : List ℕ) (answer : Answer) → Answers m (dels key) answer new → ServesLine g m (dels key) answer disk new
+  serves_del key no_reply a = record { step = a.step; serves = serves_still a.stands }
+  serves_del key (ok number) a = record { step = a.step; serves = serves_committed (del key) a.stands }
+  serves_del key (value v) a = record { step = a.step; serves = serves_still a.stands }
+  serves_del key none a = record { step = a.step; serves = serves_still a.stands }
+  serves_del key bad_line a = record { step = a.step; serves = serves_still a.stands }
+  serves_del key no_memory a = record { step = a.step; serves = serves_still a.stands }
+  serves_del key (key_length n) a = record { step = a.step; serves = serves_still a.stands }
+  serves_del key (log_full need room) a = record { step = a.step; serves = serves_still a.stands }
 
   -- the answer of a get
   pub serves_get : (key : List ℕ) (answer : Answer) → Answers m (gets key) answer new → ServesLine g m (gets key) answer disk new

@@ -1,4 +1,4 @@
--- The last line of a run that ends early.
+-- The last line of a run that ends early, and what is written where writing fails.
 use Rattle.std.specs.Prelude.{◌≡◌, ◌⊎◌, ℕ, List, [], ◌∷◌, ◌++◌, Option, codes}
 use Rattle.std.specs.Io.KnownBytes.{Appends}
 use Rattle.hse_io.specs.Faults.{Rose}
@@ -20,51 +20,6 @@ status_text status.NotFormed = []
 status_text status.NotEmpty = []
 status_text status.BadParams = []
 status_text status.Refused = []
-
--- how a run may end before the end of its script, once its store is open
-abbrev pub EndsEarly : Status → Type 0
-EndsEarly status.ReadFault = Unit {0}
-EndsEarly status.WriteFault = Unit {0}
-EndsEarly status.DeviceFault = Unit {0}
-EndsEarly status.NoMemory = Unit {0}
-EndsEarly status.LineTooLong = Unit {0}
-EndsEarly status.ScriptTooLong = Unit {0}
-EndsEarly status.Done = ⊥
-EndsEarly status.Usage = ⊥
-EndsEarly status.NotFormed = ⊥
-EndsEarly status.NotEmpty = ⊥
-EndsEarly status.BadParams = ⊥
-EndsEarly status.Refused = ⊥
-
--- how a run may end once its store is open
-abbrev pub EndsServed : Status → Type 0
-EndsServed status.Done = Unit {0}
-EndsServed status.ReadFault = Unit {0}
-EndsServed status.WriteFault = Unit {0}
-EndsServed status.DeviceFault = Unit {0}
-EndsServed status.NoMemory = Unit {0}
-EndsServed status.LineTooLong = Unit {0}
-EndsServed status.ScriptTooLong = Unit {0}
-EndsServed status.Usage = ⊥
-EndsServed status.NotFormed = ⊥
-EndsServed status.NotEmpty = ⊥
-EndsServed status.BadParams = ⊥
-EndsServed status.Refused = ⊥
-
--- how a run may end, whatever the device held
-abbrev pub EndsRun : Status → Type 0
-EndsRun status.NotEmpty = Unit {0}
-EndsRun status.Done = Unit {0}
-EndsRun status.ReadFault = Unit {0}
-EndsRun status.WriteFault = Unit {0}
-EndsRun status.DeviceFault = Unit {0}
-EndsRun status.NoMemory = Unit {0}
-EndsRun status.LineTooLong = Unit {0}
-EndsRun status.ScriptTooLong = Unit {0}
-EndsRun status.Usage = ⊥
-EndsRun status.NotFormed = ⊥
-EndsRun status.BadParams = ⊥
-EndsRun status.Refused = ⊥
 
 -- a front of these bytes was appended
 pub record AppendsFront (before after : Option (List ℕ)) (bytes : List ℕ) : Type 0 where

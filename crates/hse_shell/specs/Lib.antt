@@ -1,6 +1,7 @@
 pub mod Change
 pub mod Commands
 pub mod Ending
+pub mod Ends
 pub mod Grammar
 pub mod LogText
 pub mod Logged

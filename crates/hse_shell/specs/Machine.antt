@@ -1,10 +1,10 @@
 -- The snapshot machine: what the lines of a script do, a step a line.
 use Rattle.std.specs.Prelude.{◌≡◌, ℕ, ◌+◌, ◌-◌, nat_lt, if◌then◌else◌, List, [], ◌∷◌, ◌++◌, length, drop, Option, Some, None}
 use Rattle.std.specs.FinMap as map
-use Rattle.hse_shell.specs.Change.{Change, put, Contents, after}
-use Rattle.hse_shell.specs.Grammar.{Meaning, puts, gets, syncs, unknown}
+use Rattle.hse_shell.specs.Change.{Change, put, del, Contents, after}
+use Rattle.hse_shell.specs.Grammar.{Meaning, puts, dels, gets, syncs, silent, unknown}
 use Rattle.hse_shell.specs.LogText.{charge_of, charges_of}
-use Rattle.hse_shell.specs.Replies.{Answer, ok, value, none, bad_line, no_memory, key_length, log_full}
+use Rattle.hse_shell.specs.Replies.{Answer, no_reply, ok, value, none, bad_line, no_memory, key_length, log_full}
 
 -- A state of the machine: the commits since the base in order, each of one change, and how many of them the last
 -- finished sync had.
@@ -51,8 +51,10 @@ log_refusal m change =
 -- The first refusal of a line in the order of the table, where there is one.
 abbrev pub refusal : Machine → Meaning → Option Answer
 refusal m (puts key bytes) = key_refusal key (log_refusal m (put key bytes))
+refusal m (dels key) = key_refusal key (log_refusal m (del key))
 refusal m (gets key) = key_refusal key None
 refusal m syncs = None
+refusal m silent = None
 refusal m unknown = Some bad_line
 
 -- the state with one commit more
@@ -65,10 +67,16 @@ all_synced m = record { history = m.history; synced = length m.history }
 
 -- From old a line may get this answer, and lead to new.
 abbrev pub Step : Machine → Meaning → Answer → Machine → Type 0
--- any line may be refused memory, and then changes nothing
+-- a silent line has no reply and changes nothing, and any other line has one
+Step old silent no_reply new = new ≡ old
+Step old silent answer new = ⊥
+Step old line no_reply new = ⊥
+-- any line with a reply may be refused memory, and then changes nothing
 Step old line no_memory new = new ≡ old
 Step old (puts key bytes) (ok number) new =
     (refusal old (puts key bytes) ≡ None) × (number ≡ number_of old + 1) × (new ≡ committed old (put key bytes))
+Step old (dels key) (ok number) new =
+    (refusal old (dels key) ≡ None) × (number ≡ number_of old + 1) × (new ≡ committed old (del key))
 Step old (gets key) (value bytes) new =
     (refusal old (gets key) ≡ None) × (map.get (contents_of old) key ≡ Some bytes) × (new ≡ old)
 Step old (gets key) none new =
@@ -80,6 +88,7 @@ Step old line answer new = (refusal old line ≡ Some answer) × (new ≡ old)
 -- where a line with this answer leads
 abbrev pub led_to : Machine → Meaning → Answer → Machine
 led_to m (puts key bytes) (ok number) = committed m (put key bytes)
+led_to m (dels key) (ok number) = committed m (del key)
 led_to m syncs (ok number) = all_synced m
 led_to m line answer = m
 

@@ -2,6 +2,8 @@
 use Rattle.std.specs.Prelude.{ℕ, List, [], ◌∷◌, ◌++◌, codes, decimal}
 
 pub data Answer : Type 0 where
+  -- an empty line or a comment is answered by no line
+  no_reply : Answer
   ok : ℕ → Answer
   value : List ℕ → Answer
   none : Answer
@@ -11,6 +13,7 @@ pub data Answer : Type 0 where
   log_full : ℕ → ℕ → Answer
 
 abbrev pub text_of : Answer → List ℕ
+text_of no_reply = []
 text_of (ok number) = codes "ok " ++ decimal number
 text_of (value bytes) = codes "value " ++ bytes
 text_of none = codes "none"
@@ -21,6 +24,7 @@ text_of (log_full need room) = codes "err log-full " ++ (decimal need ++ 32 ∷ 
 
 -- each line that is written ends with one line feed
 abbrev pub answer_line : Answer → List ℕ
+answer_line no_reply = []
 answer_line answer = text_of answer ++ 10 ∷ []
 
 -- the line that a run begins with, once its store is open at this number

@@ -1,7 +1,7 @@
 //! The lines of a script, read as commands.
 ghost use Rattle.std.specs.Prelude.{◌≡◌, ◌≢◌, ◌↔◌, ◌≤◌, ℕ, List, ◌∷◌, ◌++◌};
 ghost use Rattle.std.specs.Prelude.{IsTrue, MatchOption, All};
-ghost use Rattle.hse_shell.specs.Grammar.{Means, IsWord, IsPut, IsGet, HaveOneMeaning};
+ghost use Rattle.hse_shell.specs.Grammar.{Means, IsWord, IsPut, IsKeyed, IsSilent, HaveOneMeaning};
 ghost use Rattle.hse_shell.specs.Commands.{meaning_of, HasNoSpace};
 
 /// What a line asks for, in slices of that line.
@@ -9,10 +9,14 @@ ghost use Rattle.hse_shell.specs.Commands.{meaning_of, HasNoSpace};
 pub(crate) enum Command<'a> {
     /// Set a key to a value.
     Put(&'a [u8], &'a [u8]),
+    /// Remove a key.
+    Del(&'a [u8]),
     /// Read a key.
     Get(&'a [u8]),
     /// Make all that was stored safe.
     Sync,
+    /// An empty line or a comment, which has no reply.
+    Silent,
     /// The line is outside the grammar.
     Unknown,
 }
@@ -21,11 +25,17 @@ pub(crate) enum Command<'a> {
 pub(crate) fn parse(line: &[u8]) -> Command<'_>
     ensures means { Means line.now (meaning_of result) }
 {
+    if is_silent(line) {
+        return Command::Silent;
+    }
     if line == b"sync".as_slice() {
         return Command::Sync;
     }
-    if let Some(key) = parse_get(line) {
+    if let Some(key) = parse_key(line, b"get @ s ") {
         return Command::Get(key);
+    }
+    if let Some(key) = parse_key(line, b"del @ s ") {
+        return Command::Del(key);
     }
     match parse_put(line) {
         Some((key, value)) => Command::Put(key, value),
@@ -33,12 +43,22 @@ pub(crate) fn parse(line: &[u8]) -> Command<'_>
     }
 }
 
-/// The key of a line that reads one.
-fn parse_get(line: &[u8]) -> Option<&[u8]>
-    ensures cases { MatchOption result ((key : List ℕ) → ¬ (IsGet line.now key))
-        (λ key. IsGet line.now key.now) }
+/// Whether the line is empty or a comment.
+fn is_silent(line: &[u8]) -> bool
+    ensures { IsTrue result ↔ IsSilent line.now }
 {
-    let key = behind(line, b"get @ s ")?;
+    match line {
+        [] => true,
+        [first, ..] => *first == b'#',
+    }
+}
+
+/// The key of a line that is this front and a key.
+fn parse_key<'a>(line: &'a [u8], front: &[u8]) -> Option<&'a [u8]>
+    ensures cases { MatchOption result ((key : List ℕ) → ¬ (IsKeyed front.now line.now key))
+        (λ key. IsKeyed front.now line.now key.now) }
+{
+    let key = behind(line, front)?;
     if is_word(key) { Some(key) } else { None }
 }
 

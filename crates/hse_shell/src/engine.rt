@@ -2,7 +2,7 @@
 ghost use Rattle.std.specs.Prelude.{◌≡◌, ℕ, ◌+◌, ◌*◌, ◌^◌, ◌<◌, ◌≤◌, length};
 ghost use Rattle.hse_shell.specs.Machine.{room};
 
-use crate::entry::{charge_of_put, push_put};
+use crate::entry::{charge_of_del, charge_of_put, push_del, push_put};
 use crate::reply::Reply;
 use crate::rows::Rows;
 use gate_log::Tail;
@@ -37,10 +37,31 @@ pub(crate) struct Engine {
 }
 
 impl Engine {
-    ghost use Rattle.hse_shell.specs.Grammar.{puts, gets};
+    ghost use Rattle.std.specs.Prelude.{◌≡◌, ◌+◌, ◌≤◌, None, Some, MatchOption, IfNone};
+    ghost use Rattle.hse_shell.specs.Grammar.{puts, dels, gets};
     ghost use Rattle.hse_shell.specs.ReplyView.{answer_of};
-    ghost use Rattle.hse_shell.specs.Machine.{Machine};
+    ghost use Rattle.hse_shell.specs.Change.{Change};
+    ghost use Rattle.hse_shell.specs.LogText.{charge_of};
+    ghost use Rattle.hse_shell.specs.Machine.{Machine, room, longest_key, key_refusal, log_refusal};
     ghost use Rattle.hse_shell.specs.Stands.{Stands, Answers};
+
+    /// Why a change of this key and this charge is refused: for the key's length, and then for the log's room.
+    fn refused(&self, key: &[u8], need: u64) -> Option<Reply<'static>>
+        ensures refusal { (m : Machine) (change : Change) → Stands self.now m → need ≡ charge_of change
+            → MatchOption result (key_refusal key.now (log_refusal m change) ≡ None)
+            (λ reply. key_refusal key.now (log_refusal m change) ≡ Some (answer_of reply)) }
+        ensures short { IfNone result (length key.now ≤ longest_key) }
+        ensures fits { IfNone result (self.now.charges + need ≤ room) }
+    {
+        if key.len() > LONGEST_KEY {
+            return Some(Reply::KeyLength(key.len() as u64));
+        }
+        let room = ROOM - self.charges;
+        if need > room {
+            return Some(Reply::LogFull(need, room));
+        }
+        None
+    }
 
     /// Commits a put, unless the key's length or the log's room refuses it.
     pub(crate) fn put(&mut self, key: &[u8], value: &[u8]) -> Reply<'static>
@@ -50,13 +71,9 @@ impl Engine {
         ensures tail { self.new.tail ≡ self.old.tail }
         ensures marks { self.new.marks ≡ self.old.marks }
     {
-        if key.len() > LONGEST_KEY {
-            return Reply::KeyLength(key.len() as u64);
-        }
         let need = charge_of_put(key, value);
-        let room = ROOM - self.charges;
-        if need > room {
-            return Reply::LogFull(need, room);
+        if let Some(refused) = self.refused(key, need) {
+            return refused;
         }
         let before = self.waiting.len();
         let Ok(()) = push_put(&mut self.waiting, self.number + 1, key, value) else {
@@ -66,6 +83,27 @@ impl Engine {
             self.waiting.truncate(before);
             return Reply::NoMemory;
         };
+        self.number += 1;
+        self.charges += need;
+        self.count += 1;
+        Reply::Ok(self.number)
+    }
+
+    /// Commits a deletion, unless the key's length or the log's room refuses it.
+    pub(crate) fn del(&mut self, key: &[u8]) -> Reply<'static>
+        ensures answers { (m : Machine) → Stands self.old m
+            → Answers m (dels key.now) (answer_of result) self.new }
+        ensures tail { self.new.tail ≡ self.old.tail }
+        ensures marks { self.new.marks ≡ self.old.marks }
+    {
+        let need = charge_of_del(key);
+        if let Some(refused) = self.refused(key, need) {
+            return refused;
+        }
+        let Ok(()) = push_del(&mut self.waiting, self.number + 1, key) else {
+            return Reply::NoMemory;
+        };
+        self.rows.remove(key);
         self.number += 1;
         self.charges += need;
         self.count += 1;

@@ -1,6 +1,6 @@
 //! Entries of the log.
 ghost use Rattle.std.specs.Prelude.{◌≡◌, ◌<◌, ◌^◌, ◌++◌, length, OnOk, OnErr};
-ghost use Rattle.hse_shell.specs.Change.{put};
+ghost use Rattle.hse_shell.specs.Change.{put, del};
 ghost use Rattle.hse_shell.specs.LogText.{entry_text, charge_of};
 
 use crate::append::append;
@@ -14,6 +14,9 @@ const CHANGES: u32 = 1;
 
 /// The first byte of a put.
 const PUT: u8 = 1;
+
+/// The first byte of a deletion.
+const DEL: u8 = 2;
 
 /// Appends the entry of a put under this number. Where memory is refused nothing is appended.
 pub(crate) fn push_put(
@@ -43,11 +46,37 @@ pub(crate) fn push_put(
     )
 }
 
+/// Appends the entry of a deletion under this number. Where memory is refused nothing is appended.
+pub(crate) fn push_del(into: &mut Vec<u8>, number: u64, key: &[u8]) -> Result<(), NoMemory>
+    requires key_fits { length key.now < 2 ^ 16 }
+    ensures written { OnOk result
+        (into.new.items ≡ into.old.items ++ entry_text number (del key.now)) }
+    ensures unchanged { OnErr result (into.new.items ≡ into.old.items) }
+{
+    append(
+        into,
+        &[
+            &number.to_be_bytes(),
+            &CHANGES.to_be_bytes(),
+            &[DEL],
+            &STORE.to_be_bytes(),
+            &(key.len() as u16).to_be_bytes(),
+            key,
+        ],
+    )
+}
+
 /// How many bytes of the log's room the entry of a put takes.
 pub(crate) fn charge_of_put(key: &[u8], value: &[u8]) -> u64
-    requires key_fits { length key.now < 2 ^ 16 }
-    requires value_fits { length value.now < 2 ^ 32 }
+    requires { length value.now < 2 ^ 32 }
     ensures { result ≡ charge_of (put key.now value.now) }
 {
     12 + (15 + key.len() as u64 + value.len() as u64) + 32
+}
+
+/// How many bytes of the log's room the entry of a deletion takes.
+pub(crate) fn charge_of_del(key: &[u8]) -> u64
+    ensures { result ≡ charge_of (del key.now) }
+{
+    12 + (11 + key.len() as u64) + 32
 }

@@ -1,7 +1,9 @@
 //! Scripts: lines in, replies out, and a log that holds what they stored.
 #![tactic(auto)]
 
+mod answering;
 mod append;
+mod closing;
 mod command;
 mod ending;
 mod engine;

@@ -77,6 +77,15 @@ impl Rows {
         }
         Ok(())
     }
+
+    /// Removes a key, where it is there. It takes no memory.
+    pub fn remove(&mut self, key: &[u8])
+        ensures { self.new ≡ map.remove self.old key.now }
+    {
+        if let Ok(at) = place(&self.rows, key) {
+            let _row = self.rows.remove(at);
+        }
+    }
 }
 
 /// Where a row of this key stands, or else where it would.

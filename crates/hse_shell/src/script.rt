@@ -1,100 +1,96 @@
 //! A script, line by line.
-ghost use Rattle.std.specs.Prelude.{◌≡◌, ◌<◌, ◌≤◌, ℕ, List, [], Option, Some, Ok, IfSome, IfErr, IsErrOf, OnOk};
+ghost use Rattle.std.specs.Prelude.{◌≡◌, ◌+◌, ◌^◌, ◌<◌, ◌≤◌, [], Some, Ok, IfSome, IfErr, IsErrOf, length};
 ghost use Rattle.hse_io.specs.Faults.{Rose};
 ghost use Rattle.hse_io.specs.declared.source.Got.{Got};
-ghost use Rattle.hse_shell.specs.Ending.{EndsEarly, EndsServed};
 ghost use Rattle.hse_shell.specs.Machine.{Machine};
 ghost use Rattle.hse_shell.specs.Logged.{Serves};
 ghost use Rattle.hse_shell.specs.Stored.{device_size};
-ghost use Rattle.hse_shell.specs.SoFar.{SoFar, Closed, RanToEnd};
+ghost use Rattle.hse_shell.specs.SoFar.{Start, SoFar};
+ghost use Rattle.hse_shell.specs.Ends.{Stops, EndsServed};
 
+use crate::answering::answer;
+use crate::closing::close;
 use crate::engine::Engine;
-use crate::log::FlushFault;
-use crate::reply::closed_line;
-use crate::turn::{Stop, turn};
-use hse_io::{Got, Line, LineFault, Sink, Source, Status};
+use hse_io::{Got, Line, LineFault, NoMemory, Sink, Source, Status};
 use media_disk::Disk;
 use std::alloc::Global;
 
 /// The lines of a script have fewer bytes, each line counted with one byte more.
 const LONGEST_SCRIPT: u64 = 1 << 40;
 
+/// A script that is being answered.
+#[derive(Drop)]
+pub(crate) struct Script {
+    /// The line taken last.
+    line: Line,
+    /// Where the text of a reply is made.
+    pub(crate) text: Vec<u8>,
+    /// The bytes of the lines taken, each line counted with one byte more.
+    pub(crate) taken: u64,
+    ghost within: { taken < 2 ^ 40 },
+}
+
+impl Script {
+    ghost use Rattle.std.specs.Prelude.{◌≡◌, IfOk};
+
+    /// A script of which no line was taken.
+    pub(crate) fn new(alloc: Global) -> Result<Script, NoMemory>
+        ensures { IfOk result (λ script. script.taken ≡ 0) }
+    {
+        Ok(Script {
+            line: Line::new(alloc)?,
+            text: Vec::new(alloc),
+            taken: 0,
+        })
+    }
+}
+
 /// Takes one line, answers it, and writes its reply. An `Err` is why the run ends early.
-pub(crate) fn advance<S: Source, K: Sink, D: Disk>(
+fn advance<S: Source, K: Sink, D: Disk>(
     alloc: Global,
     source: &mut S,
     sink: &mut K,
     disk: &mut D,
     engine: &mut Engine,
-    line: &mut Line,
-    text: &mut Vec<u8>,
+    script: &mut Script,
 ) -> Result<Got, Status>
     requires { D.extent disk.old ≡ device_size }
-
-    ensures text { result ≡ Ok Got.Text → (input before : Option (List ℕ))
-        → SoFar D.Disk input (S.remaining source.old) before (K.contents sink.old) disk.old engine.old
-        → SoFar D.Disk input (S.remaining source.new) before (K.contents sink.new) disk.new engine.new }
-    ensures ended { result ≡ Ok Got.Ended → (input before : Option (List ℕ))
-        → SoFar D.Disk input (S.remaining source.old) before (K.contents sink.old) disk.old engine.old
-        → SoFar D.Disk input (S.remaining source.new) before (K.contents sink.new) disk.new engine.new
-        × IfSome input (λ all. S.remaining source.new ≡ Some []) }
-
+    ensures text { result ≡ Ok Got.Text → (start : Start D)
+        → SoFar D.Disk start (S.remaining source.old) (K.contents sink.old) disk.old engine.old script.old.taken
+        → SoFar D.Disk start (S.remaining source.new) (K.contents sink.new) disk.new engine.new script.new.taken }
+    ensures ended { result ≡ Ok Got.Ended → (start : Start D)
+        → SoFar D.Disk start (S.remaining source.old) (K.contents sink.old) disk.old engine.old script.old.taken
+        → SoFar D.Disk start (S.remaining source.new) (K.contents sink.new) disk.new engine.new script.new.taken
+        × IfSome start.input (λ all. S.remaining source.new ≡ Some []) }
+    ensures stops { IfErr result (λ ended. (start : Start D)
+        → SoFar D.Disk start (S.remaining source.old) (K.contents sink.old) disk.old engine.old script.old.taken
+        → Stops D.Disk ended start (S.remaining source.new) (K.contents sink.new)) }
     ensures read { IsErrOf result Status.ReadFault → Rose (S.faults source.old) (S.faults source.new) }
     ensures write { IsErrOf result Status.WriteFault → Rose (K.faults sink.old) (K.faults sink.new) }
     ensures device { IsErrOf result Status.DeviceFault → Rose (D.faults disk.old) (D.faults disk.new) }
-    ensures ends { IfErr result EndsEarly }
+    // Each line that is taken counts a byte at least.
+    ensures counts { result ≡ Ok Got.Text → script.old.taken < script.new.taken }
     ensures later { (S.faults source.old ≤ S.faults source.new) × (K.faults sink.old ≤ K.faults sink.new)
         × (D.faults disk.old ≤ D.faults disk.new) }
     ensures extent { D.extent disk.new ≡ D.extent disk.old }
 {
-    match source.read_line(line) {
+    match source.read_line(&mut script.line) {
         Ok(Got::Text) => {}
         Ok(Got::Ended) => return Ok(Got::Ended),
         Err(LineFault::Failed) => return Err(Status::ReadFault),
         Err(LineFault::TooLong) => return Err(Status::LineTooLong),
     }
-    text.clear();
-    match turn(alloc, engine, disk, line.bytes(), text) {
+    let line = script.line.bytes();
+    match answer(alloc, sink, disk, engine, line, &mut script.text) {
         Ok(()) => {}
-        Err(Stop::Device) => return Err(Status::DeviceFault),
-        Err(Stop::NoMemory) => return Err(Status::NoMemory),
+        Err(status) => return Err(status),
     }
-    match sink.write(text) {
-        Ok(()) => Ok(Got::Text),
-        Err(_) => Err(Status::WriteFault),
+    let taken = script.taken + line.len() as u64 + 1;
+    if taken >= LONGEST_SCRIPT {
+        return Err(Status::ScriptTooLong);
     }
-}
-
-/// Makes all commits safe, and writes the last line of a run to the end of its script.
-pub(crate) fn close<K: Sink, D: Disk>(
-    alloc: Global,
-    sink: &mut K,
-    disk: &mut D,
-    engine: &mut Engine,
-    text: &mut Vec<u8>,
-) -> Status
-    requires { D.extent disk.old ≡ device_size }
-    ensures closed { result ≡ Status.Done → (m : Machine) → Serves D.Disk disk.old engine.old m
-        → Closed D.Disk m (K.contents sink.old) (K.contents sink.new) disk.new }
-    ensures ends { EndsServed result }
-    ensures read { result ≡ Status.ReadFault → ⊥ }
-    ensures write { result ≡ Status.WriteFault → Rose (K.faults sink.old) (K.faults sink.new) }
-    ensures device { result ≡ Status.DeviceFault → Rose (D.faults disk.old) (D.faults disk.new) }
-    ensures later { (K.faults sink.old ≤ K.faults sink.new) × (D.faults disk.old ≤ D.faults disk.new) }
-{
-    match engine.flush(alloc, disk) {
-        Ok(()) => {}
-        Err(FlushFault::NoMemory) => return Status::NoMemory,
-        Err(FlushFault::Device) => return Status::DeviceFault,
-    }
-    text.clear();
-    let Ok(()) = closed_line(engine.number, text) else {
-        return Status::NoMemory;
-    };
-    match sink.write(text) {
-        Ok(()) => Status::Done,
-        Err(_) => Status::WriteFault,
-    }
+    script.taken = taken;
+    Ok(Got::Text)
 }
 
 /// Answers line after line until the input or the run ends.
@@ -104,30 +100,22 @@ pub(crate) fn answer_all<S: Source, K: Sink, D: Disk>(
     sink: &mut K,
     disk: &mut D,
     engine: &mut Engine,
-    line: &mut Line,
-    text: &mut Vec<u8>,
+    script: &mut Script,
 ) -> Status
     requires { D.extent disk.old ≡ device_size }
-    ensures done { result ≡ Status.Done → (input before : Option (List ℕ))
-        → SoFar D.Disk input (S.remaining source.old) before (K.contents sink.old) disk.old engine.old
-        → RanToEnd D.Disk input (S.remaining source.new) before (K.contents sink.new) disk.new }
+    ensures ends { (start : Start D)
+        → SoFar D.Disk start (S.remaining source.old) (K.contents sink.old) disk.old engine.old script.old.taken
+        → EndsServed D.Disk result start (S.remaining source.new) (K.contents sink.new) disk.new }
     ensures read { result ≡ Status.ReadFault → Rose (S.faults source.old) (S.faults source.new) }
     ensures write { result ≡ Status.WriteFault → Rose (K.faults sink.old) (K.faults sink.new) }
     ensures device { result ≡ Status.DeviceFault → Rose (D.faults disk.old) (D.faults disk.new) }
-    ensures ends { EndsServed result }
-    ensures later { (S.faults source.old ≤ S.faults source.new) × (K.faults sink.old ≤ K.faults sink.new)
-        × (D.faults disk.old ≤ D.faults disk.new) }
+    ensures later { K.faults sink.old ≤ K.faults sink.new }
 {
-    let mut taken: u64 = 0;
     'lines: loop {
-        match advance(alloc, source, sink, disk, engine, line, text) {
+        match advance(alloc, source, sink, disk, engine, script) {
             Ok(Got::Text) => {}
-            Ok(Got::Ended) => return close(alloc, sink, disk, engine, text),
+            Ok(Got::Ended) => return close(alloc, sink, disk, engine, &mut script.text),
             Err(status) => return status,
-        }
-        taken += line.bytes().len() as u64 + 1;
-        if taken >= LONGEST_SCRIPT {
-            return Status::ScriptTooLong;
         }
     }
 }

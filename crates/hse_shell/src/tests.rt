@@ -1,6 +1,6 @@
 //! What no clause says: the bytes and texts of examples from outside.
 use crate::command::{Command, parse};
-use crate::entry::{charge_of_put, push_put};
+use crate::entry::{charge_of_del, charge_of_put, push_del, push_put};
 use crate::reply::{Reply, closed_line, not_empty_line, opened_line, print};
 use crate::rows::Rows;
 use std::alloc::Global;
@@ -8,7 +8,7 @@ use std::process::Abort;
 use std::test::Fail;
 
 #[test]
-fn the_entry_of_number_two_has_the_bytes_of_the_example(rt: HostRuntime) -> Result<(), Fail> {
+fn entries_have_the_bytes_of_the_examples(rt: HostRuntime) -> Result<(), Fail> {
     let mut entry = Vec::new(rt.alloc());
     push_put(&mut entry, 2, b"k", b"v")?;
     let example = [
@@ -16,6 +16,13 @@ fn the_entry_of_number_two_has_the_bytes_of_the_example(rt: HostRuntime) -> Resu
     ];
     assert_eq!(rt; entry.as_slice(), example.as_slice());
     assert_eq!(rt; charge_of_put(b"k", b"v"), 61);
+    let mut entry = Vec::new(rt.alloc());
+    push_del(&mut entry, 3, b"k")?;
+    let example = [
+        0, 0, 0, 0, 0, 0, 0, 3, 0, 0, 0, 1, 2, 0, 0, 0, 0, 0, 0, 0, 1, 0, 1, 0x6b,
+    ];
+    assert_eq!(rt; entry.as_slice(), example.as_slice());
+    assert_eq!(rt; charge_of_del(b"k"), 56);
     Ok(())
 }
 
@@ -67,6 +74,12 @@ fn lines_of_the_grammar_are_read(rt: HostRuntime) {
         }
         _ => assert!(rt; false),
     }
+    assert!(rt; matches!(parse(b""), Command::Silent));
+    assert!(rt; matches!(parse(b"#sync"), Command::Silent));
+    match parse(b"del @ s key") {
+        Command::Del(key) => assert_eq!(rt; key, b"key".as_slice()),
+        _ => assert!(rt; false),
+    }
     match parse(b"get @ s key") {
         Command::Get(key) => assert_eq!(rt; key, b"key".as_slice()),
         _ => assert!(rt; false),
@@ -81,8 +94,9 @@ fn other_lines_are_unknown(rt: HostRuntime) {
     refused(&rt, b"put @ s a");
     refused(&rt, b"get @ s ");
     refused(&rt, b"get @ s a b");
+    refused(&rt, b"del @ s a b");
     refused(&rt, b"sync ");
-    refused(&rt, b"");
+    refused(&rt, b" ");
 }
 
 fn refused(rt: &impl Abort, line: &[u8]) {
@@ -98,5 +112,9 @@ fn the_newest_value_of_a_key_is_read(rt: HostRuntime) -> Result<(), Fail> {
     assert_eq!(rt; rows.get(b"b").ok_or("b")?, b"3".as_slice());
     assert_eq!(rt; rows.get(b"a").ok_or("a")?, b"2".as_slice());
     assert!(rt; rows.get(b"c").is_none());
+    rows.remove(b"b");
+    rows.remove(b"c");
+    assert!(rt; rows.get(b"b").is_none());
+    assert_eq!(rt; rows.get(b"a").ok_or("a")?, b"2".as_slice());
     Ok(())
 }

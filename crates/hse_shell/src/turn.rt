@@ -1,7 +1,7 @@
 //! One line of a script.
 ghost use Rattle.std.specs.Prelude.{◌≡◌, ◌^◌, ◌<◌, ◌≤◌, ◌++◌, length, OnOk, IsOk, IsErrOf};
 ghost use Rattle.hse_io.specs.Faults.{Rose};
-ghost use Rattle.hse_shell.specs.Grammar.{puts, gets};
+ghost use Rattle.hse_shell.specs.Grammar.{Means, puts, dels, gets, syncs};
 ghost use Rattle.hse_shell.specs.Replies.{answer_line, bad_line};
 ghost use Rattle.hse_shell.specs.Machine.{Machine};
 ghost use Rattle.hse_shell.specs.Stands.{Stands};
@@ -44,6 +44,15 @@ fn put_line(engine: &mut Engine, key: &[u8], value: &[u8], text: &mut Vec<u8>) -
     stop_of(print(&reply, text))
 }
 
+fn del_line(engine: &mut Engine, key: &[u8], text: &mut Vec<u8>) -> Result<(), Stop>
+    ensures said { OnOk result ((m : Machine) → Stands engine.old m
+        → Said m (dels key.now) engine.old engine.new text.old.items text.new.items) }
+    ensures no_device { IsErrOf result Stop.Device → ⊥ }
+{
+    let reply = engine.del(key);
+    stop_of(print(&reply, text))
+}
+
 fn get_line(engine: &Engine, key: &[u8], text: &mut Vec<u8>) -> Result<(), Stop>
     ensures said { OnOk result ((m : Machine) → Stands engine.now m
         → Said m (gets key.now) engine.now engine.now text.old.items text.new.items) }
@@ -79,7 +88,7 @@ fn sync_line<D: Disk>(
     stop_of(print(&reply, text))
 }
 
-/// Answers one line: adds its reply to the text. An `Err` ends the run.
+/// Answers one line: adds its reply to the text, a silent line nothing. An `Err` ends the run.
 pub(crate) fn turn<D: Disk>(
     alloc: Global,
     engine: &mut Engine,
@@ -92,13 +101,17 @@ pub(crate) fn turn<D: Disk>(
     ensures turned { OnOk result ((m : Machine) → Serves D.Disk disk.old engine.old m
         → Turned D.Disk m line.now text.old.items text.new.items disk.new engine.new) }
     ensures device { IsErrOf result Stop.Device → Rose (D.faults disk.old) (D.faults disk.new) }
+    // No other line asks the device.
+    ensures sync { IsErrOf result Stop.Device → Means line.now syncs }
     ensures later { D.faults disk.old ≤ D.faults disk.new }
     ensures extent { D.extent disk.new ≡ D.extent disk.old }
 {
     match parse(line) {
         Command::Put(key, value) => put_line(engine, key, value, text),
+        Command::Del(key) => del_line(engine, key, text),
         Command::Get(key) => get_line(engine, key, text),
         Command::Sync => sync_line(alloc, engine, disk, text),
+        Command::Silent => Ok(()),
         Command::Unknown => unknown_line(text),
     }
 }

@@ -1,11 +1,26 @@
-use Rattle.std.proofs.Common.{ap}
+use Rattle.std.proofs.Common.{ap, arith, rules}
 use Rattle.std.specs.Prelude.{Ok}
-use Rattle.hse_shell.proofs.RunLemmas.{ran_to_end}
+use Rattle.hse_shell.proofs.StopLemmas.{ends_closed, ends_stopped}
 use Rattle.hse_shell.proofs.script.answer_all.Goals as goal
 
-pub returns-in-Ok-Ended-clause-done : goal.returns-in-Ok-Ended-clause-done
-returns-in-Ok-Ended-clause-done g c is input before s =
-    let ended = c.in-Ok-Ended.ensures.ended (ap Ok c.in-Ok-Ended.field-0-is) input before (c.lines.invariant.so_far input before s) in
-    ran_to_end g.D.Disk input (g.S.Source.remaining c.advance.new.source) before (g.K.Sink.contents c.advance.new.sink) _
-    c.advance.new.disk c.close.new.disk c.advance.new.engine ended.0 ended.1
-    (c.close.ensures.closed is ended.0.state ended.0.serves)
+pub lines-preserved : goal.lines-preserved
+lines-preserved g c = record {
+  so_far = λ start s. c.in-Ok-Text.ensures.text (ap Ok c.in-Ok-Text.field-0-is) start (c.lines.invariant.so_far start s);
+  extent = search rules;
+  read = omega arith;
+  wrote = omega arith;
+  failed = omega arith;
+}
+
+pub returns-in-Ok-Ended-clause-ends : goal.returns-in-Ok-Ended-clause-ends
+returns-in-Ok-Ended-clause-ends g c start s =
+    let ended = c.in-Ok-Ended.ensures.ended (ap Ok c.in-Ok-Ended.field-0-is) start (c.lines.invariant.so_far start s) in
+    ends_closed g.D.Disk start (g.S.Source.remaining c.advance.new.source) (g.K.Sink.contents c.advance.new.sink)
+    c.advance.new.disk c.advance.new.engine c.advance.new.script.taken c.advance.new.script.within ended.0
+    c.close.result (g.K.Sink.contents c.close.new.sink) c.close.new.disk ended.1
+    (c.close.ensures.closes ended.0.ran.state ended.0.serves)
+
+pub returns-in-Err-clause-ends : goal.returns-in-Err-clause-ends
+returns-in-Err-clause-ends g c start s =
+    ends_stopped g.D.Disk c.in-Err.status start _ _ c.advance.new.disk
+    (c.in-Err.ensures.stops start (c.lines.invariant.so_far start s))

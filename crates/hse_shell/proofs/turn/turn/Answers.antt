@@ -1,8 +1,9 @@
-use Rattle.std.proofs.Common.{refl}
+use Rattle.std.proofs.Common.{refl, sym}
+use Rattle.std.proofs.lemmas.List.{append-nil}
 use Rattle.std.proofs.lemmas.Result.{on_ok_weaker}
-use Rattle.hse_shell.specs.Grammar.{puts, unknown}
-use Rattle.hse_shell.specs.Replies.{bad_line}
-use Rattle.hse_shell.proofs.TurnLemmas.{serves_put}
+use Rattle.hse_shell.specs.Grammar.{puts, dels, silent, unknown}
+use Rattle.hse_shell.specs.Replies.{bad_line, no_reply}
+use Rattle.hse_shell.proofs.TurnLemmas.{serves_put, serves_del}
 use Rattle.hse_shell.proofs.turn.turn.Goals as goal
 
 pub returns-in-Put-clause-turned : goal.returns-in-Put-clause-turned
@@ -25,3 +26,24 @@ returns-in-Unknown-clause-turned g c = on_ok_weaker c.unknown_line.result (λ sa
   turned = record { step = (refl, refl); serves = s };
   said = said;
 }) c.unknown_line.ensures.said
+
+pub returns-in-Del-clause-turned : goal.returns-in-Del-clause-turned
+returns-in-Del-clause-turned g c = on_ok_weaker c.del_line.result (λ said m s.
+    let line = said m s.stands in
+    record {
+      meaning = dels c.in-Del.key.now;
+      answer = line.answer;
+      means = c.in-Del.ensures.means;
+      turned = serves_del g.D.Disk c.args.disk.now c.args.engine.now c.del_line.new.engine m line.tail line.marks s
+          c.in-Del.key.now line.answer line.answers;
+      said = line.said;
+    }) c.del_line.ensures.said
+
+pub returns-in-Silent-clause-turned : goal.returns-in-Silent-clause-turned
+returns-in-Silent-clause-turned g c m s = record {
+  meaning = silent;
+  answer = no_reply;
+  means = c.in-Silent.ensures.means;
+  turned = record { step = refl; serves = s };
+  said = sym (append-nil c.args.text.now.items);
+}

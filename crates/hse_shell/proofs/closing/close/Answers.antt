@@ -5,10 +5,10 @@ use Rattle.hse_shell.specs.LogText.{Says}
 use Rattle.hse_shell.specs.Replies.{closed_text}
 use Rattle.hse_shell.specs.Machine.{all_synced, number_of}
 use Rattle.hse_shell.specs.Logged.{Serves}
-use Rattle.hse_shell.proofs.script.close.Goals as goal
+use Rattle.hse_shell.proofs.closing.close.Goals as goal
 
-pub returns-in-Ok-write-clause-closed : goal.returns-in-Ok-write-clause-closed
-returns-in-Ok-write-clause-closed g c is m s =
+pub returns-in-Ok-write-clause-closes : goal.returns-in-Ok-write-clause-closes
+returns-in-Ok-write-clause-closes g c m s =
     let after : Serves g.D.Disk c.flush.new.disk c.flush.new.self (all_synced m) = c.in-Ok.ensures.synced m s in
     let text : c.deref.result.now ≡ closed_text (number_of m) =
     c.deref.ensures.value ∙ c.in-Ok-closed_line.ensures.written
