@@ -1,0 +1,113 @@
+-- Small cases of newest rows, packing, routing and the jobs, worked by hand.
+use Rattle.std.proofs.Common.{◌≡◌, ℕ, true, false, List, [], ◌∷◌, refl}
+use Rattle.std.specs.Prelude.{codes}
+use Rattle.hse_rows.specs.declared.change.Change.{Change}
+use Rattle.hse_rows.specs.declared.change.Change.TheVariants.{Put, Del, PDel}
+use Rattle.hse_rows.specs.declared.row.Row.{Row}
+use Rattle.hse_rows.specs.declared.write.Write.{Write}
+use Rattle.hse_rows.specs.Change.{write_of}
+use Rattle.hse_rows.specs.declared.store.Mode.TheVariants.{Plain}
+use Rattle.hse_rows.specs.History.{new_store}
+use Rattle.hse_rows.specs.Log.{Numbered}
+use Rattle.hse_rows.specs.Newest.{newest, merged}
+use Rattle.hse_rows.specs.Routing.{child_of}
+use Rattle.hse_rows.specs.Layout.{Layout, sets_at, ingested, compacted, spilled, is_last}
+
+abbrev row : ℕ → Change → Row
+row number change = record { number = number; change = change }
+
+abbrev write : ℕ → Change → Write
+write id change = write_of (record { 0 = id }) change
+
+-- ---- newest rows
+
+the_greatest_number_is_kept :
+    newest (row 3 (Put (codes "a") (codes "new")) ∷ row 2 (Put (codes "a") (codes "old")) ∷ []) ≡ row 3 (Put (codes "a") (codes "new")) ∷ []
+unfolding newest
+the_greatest_number_is_kept = refl
+
+a_prefix_delete_covers_smaller_numbers_only :
+    newest (row 2 (Put (codes "ab1") (codes "1")) ∷ row 3 (PDel (codes "ab")) ∷ row 3 (Put (codes "ab2") (codes "2")) ∷ [])
+    ≡ row 3 (PDel (codes "ab")) ∷ row 3 (Put (codes "ab2") (codes "2")) ∷ []
+unfolding newest
+a_prefix_delete_covers_smaller_numbers_only = refl
+
+a_deletion_is_a_row : newest (row 2 (Put (codes "a") (codes "1")) ∷ row 3 (Del (codes "a")) ∷ []) ≡ row 3 (Del (codes "a")) ∷ []
+unfolding newest
+a_deletion_is_a_row = refl
+
+the_last_merge_leaves_deletions_out : merged true (row 2 (Put (codes "a") (codes "1")) ∷ row 3 (Del (codes "a")) ∷ []) ≡ []
+unfolding newest
+the_last_merge_leaves_deletions_out = refl
+
+-- ---- routing
+
+a_key_goes_by_its_prefix : child_of 0 1 (codes "a1") ≡ 1
+a_key_goes_by_its_prefix = refl
+
+a_prefix_goes_with_its_keys : child_of 0 1 (codes "a") ≡ 1
+a_prefix_goes_with_its_keys = refl
+
+another_goes_elsewhere : child_of 0 1 (codes "b1") ≡ 2
+another_goes_elsewhere = refl
+
+the_next_depth_takes_the_next_digit : child_of 1 1 (codes "a1") ≡ 6
+the_next_depth_takes_the_next_digit = refl
+
+-- ---- jobs
+
+-- one commit: a prefix delete, and a put under it
+abbrev layer : List Numbered
+layer = record { number = 2; writes = write 1 (PDel (codes "ab")) ∷ write 1 (Put (codes "ab2") (codes "2")) ∷ [] } ∷ []
+
+abbrev after_ingest : Layout
+after_ingest = ingested 65536 [] (new_store 1 (codes "s") Plain 2 ∷ []) layer
+
+an_ingest_makes_one_set_of_three_blocks :
+    sets_at after_ingest 1 []
+    ≡ record {
+      rows = row 2 (PDel (codes "ab")) ∷ row 2 (Put (codes "ab2") (codes "2")) ∷ [];
+      prefix_blocks = 1;
+      key_blocks = 1;
+      value_blocks = 1;
+    } ∷ []
+unfolding newest
+an_ingest_makes_one_set_of_three_blocks = refl
+
+a_root_without_children_is_last : is_last after_ingest 1 [] 0 ≡ true
+unfolding newest
+a_root_without_children_is_last = refl
+
+a_compaction_of_the_last_leaves_the_prefix_delete_out :
+    sets_at (compacted 65536 after_ingest 1 [] 0 1 true) 1 []
+    ≡ record { rows = row 2 (Put (codes "ab2") (codes "2")) ∷ []; prefix_blocks = 0; key_blocks = 1; value_blocks = 1 } ∷ []
+unfolding newest
+a_compaction_of_the_last_leaves_the_prefix_delete_out = refl
+
+abbrev after_spill : Layout
+after_spill = spilled 65536 after_ingest 1 [] 1 1
+
+a_spill_empties_its_run : sets_at after_spill 1 [] ≡ []
+unfolding newest
+a_spill_empties_its_run = refl
+
+a_spill_fills_the_child : sets_at after_spill 1 (1 ∷ []) ≡ sets_at after_ingest 1 []
+unfolding newest
+a_spill_fills_the_child = refl
+
+a_node_above_is_not_last : is_last after_spill 1 [] 0 ≡ false
+unfolding newest
+a_node_above_is_not_last = refl
+
+-- a deletion ingested and spilled stands before the put that is there
+abbrev before_two : Layout
+before_two = spilled 65536 (ingested 65536 after_spill (new_store 1 (codes "s") Plain 2 ∷ []) (record { number = 3; writes = write 1 (Del (codes "ab2")) ∷ [] } ∷ [])) 1 [] 1 1
+
+a_spill_stands_in_front : sets_at before_two 1 (1 ∷ [])
+    ≡ record { rows = row 3 (Del (codes "ab2")) ∷ []; prefix_blocks = 0; key_blocks = 1; value_blocks = 0 } ∷ sets_at after_ingest 1 []
+unfolding newest
+a_spill_stands_in_front = refl
+
+merging_both_leaves_nothing : sets_at (compacted 65536 before_two 1 (1 ∷ []) 0 2 true) 1 (1 ∷ []) ≡ []
+unfolding newest
+merging_both_leaves_nothing = refl

@@ -1,0 +1,136 @@
+-- Layouts: the sets at the nodes of the stores' trees, and what the jobs make of them.
+use Rattle.std.specs.Prelude.{ℕ, ◌+◌, ◌-◌, ◌==◌, Bool, false, ◌&&◌, not, List, [], ◌∷◌, ◌++◌, length, take, drop, flat_map, sum_by, Option, Some, None}
+use Rattle.std.specs.List.{filter, find, fold, list_any}
+use Rattle.std.specs.declared.cmp.Ordering.{Ordering}
+use Rattle.std.specs.Ordering.{nat_cmp, on, then_cmp}
+use Rattle.std.specs.Cmp.Lexicographic.{slice_cmp}
+use Rattle.hse_rows.specs.declared.row.Row.{Row}
+use Rattle.hse_rows.specs.Change.{covers, target}
+use Rattle.hse_rows.specs.Sorted.{placed}
+use Rattle.hse_rows.specs.NormalForm.{same}
+use Rattle.hse_rows.specs.State.{Store}
+use Rattle.hse_rows.specs.Log.{Numbered}
+use Rattle.hse_rows.specs.Newest.{merged, newest, rows_of}
+use Rattle.hse_rows.specs.Packing.{prefix_blocks, key_blocks, value_blocks}
+use Rattle.hse_rows.specs.Routing.{child_of}
+
+-- rows in order, and how many blocks of each kind hold them
+pub record RowsInBlocks : Type 0 where
+  pub rows : List Row
+  pub prefix_blocks : ℕ
+  pub key_blocks : ℕ
+  pub value_blocks : ℕ
+
+-- the node of a store at a path, a list of digits from the root on, with its sets, newest first
+pub record Node : Type 0 where
+  pub store : ℕ
+  pub path : List ℕ
+  pub sets : List RowsInBlocks
+
+-- the nodes that have sets, by store and path
+abbrev pub Layout : Type 0
+Layout = List Node
+
+abbrev pub node_cmp : Node → Node → Ordering
+node_cmp = then_cmp (on (λ (node : Node). node.store) nat_cmp) (on (λ (node : Node). node.path) (slice_cmp nat_cmp))
+
+abbrev pub is_at : ℕ → List ℕ → Node → Bool
+is_at store path node = (node.store == store) && same node.path path
+
+abbrev pub sets_in : Option Node → List RowsInBlocks
+sets_in None = []
+sets_in (Some node) = node.sets
+
+-- the sets of a node
+abbrev pub sets_at : Layout → ℕ → List ℕ → List RowsInBlocks
+sets_at layout store path = sets_in (find (is_at store path) layout)
+
+-- The node gets these sets, and leaves where there is none.
+abbrev pub with_sets : Layout → ℕ → List ℕ → List RowsInBlocks → Layout
+with_sets layout store path [] = filter (λ node. not (is_at store path node)) layout
+with_sets layout store path (first ∷ rest) =
+    placed node_cmp (filter (λ node. not (is_at store path node)) layout)
+    (record { store = store; path = path; sets = first ∷ rest })
+
+-- a set of these rows, and none where there is no row
+abbrev pub set_of : ℕ → List Row → List RowsInBlocks
+set_of slot_size [] = []
+set_of slot_size (row ∷ rows) = record {
+  rows = row ∷ rows;
+  prefix_blocks = length (prefix_blocks slot_size (row ∷ rows));
+  key_blocks = length (key_blocks slot_size (row ∷ rows));
+  value_blocks = length (value_blocks slot_size (row ∷ rows));
+} ∷ []
+
+-- new sets at the front of a node
+abbrev pub in_front : Layout → ℕ → List ℕ → List RowsInBlocks → Layout
+in_front layout store path new = with_sets layout store path (new ++ sets_at layout store path)
+
+-- ---- ingest
+
+-- A layer's newest rows of each live store become one set at the front of its root.
+abbrev pub ingested : ℕ → Layout → List Store → List Numbered → Layout
+ingested slot_size layout stores commits =
+    fold (λ l store. in_front l store.id [] (set_of slot_size (newest (rows_of store.id commits)))) layout stores
+
+-- ---- runs: as many adjacent sets of a node, with this many older ones behind
+
+abbrev pub run_in : List RowsInBlocks → ℕ → ℕ → List RowsInBlocks
+run_in sets older len = take len (drop (length sets - (older + len)) sets)
+
+abbrev pub in_place_of_run : List RowsInBlocks → ℕ → ℕ → List RowsInBlocks → List RowsInBlocks
+in_place_of_run sets older len new = take (length sets - (older + len)) sets ++ new ++ drop (length sets - older) sets
+
+abbrev pub rows_of_run : List RowsInBlocks → List Row
+rows_of_run run = flat_map (λ set. set.rows) run
+
+-- a set on a longer path that extends this one
+abbrev pub has_children : Layout → ℕ → List ℕ → Bool
+has_children layout store path =
+    list_any (λ node. (node.store == store) && covers path node.path && not (same path node.path)) layout
+
+-- nothing older than the run can stand behind it
+abbrev pub is_last : Layout → ℕ → List ℕ → ℕ → Bool
+is_last layout store path older = (older == 0) && not (has_children layout store path)
+
+-- ---- compactions
+
+-- the same rows in new blocks of prefixes and keys, with the value blocks of the run
+abbrev pub with_values_of : List RowsInBlocks → List RowsInBlocks → List RowsInBlocks
+with_values_of run [] = []
+with_values_of run (set ∷ rest) = record set { value_blocks = sum_by (λ (s : RowsInBlocks). s.value_blocks) run } ∷ rest
+
+-- A key-value compaction writes the run's merged rows anew, in the run's place.
+abbrev pub compacted : ℕ → Layout → ℕ → List ℕ → ℕ → ℕ → Bool → Layout
+compacted slot_size layout store path older len last =
+    with_sets layout store path
+    (in_place_of_run (sets_at layout store path) older len
+    (set_of slot_size (merged last (rows_of_run (run_in (sets_at layout store path) older len)))))
+
+-- A key compaction takes over the run's value blocks.
+abbrev pub keys_compacted : ℕ → Layout → ℕ → List ℕ → ℕ → ℕ → Bool → Layout
+keys_compacted slot_size layout store path older len last =
+    with_sets layout store path
+    (in_place_of_run (sets_at layout store path) older len
+    (with_values_of (run_in (sets_at layout store path) older len)
+    (set_of slot_size (merged last (rows_of_run (run_in (sets_at layout store path) older len))))))
+
+-- ---- spills
+
+abbrev pub children : List ℕ
+children = 0 ∷ 1 ∷ 2 ∷ 3 ∷ 4 ∷ 5 ∷ 6 ∷ 7 ∷ 8 ∷ 9 ∷ 10 ∷ 11 ∷ 12 ∷ 13 ∷ 14 ∷ 15 ∷ []
+
+-- the rows that go to a child of a node at this depth
+abbrev pub part_for : ℕ → ℕ → ℕ → List Row → List Row
+part_for depth prefix_length child rows =
+    filter (λ row. child_of depth prefix_length (target row.change) == child) rows
+
+-- A spill divides the merged rows of a node's oldest sets among its children, one set at the front of each.
+abbrev pub spilled : ℕ → Layout → ℕ → List ℕ → ℕ → ℕ → Layout
+spilled slot_size layout store path prefix_length len =
+    fold (λ l child.
+    in_front l store (path ++ child ∷ [])
+    (set_of slot_size (part_for (length path) prefix_length child
+    (merged false (rows_of_run (run_in (sets_at layout store path) 0 len))))))
+    (with_sets layout store path (in_place_of_run (sets_at layout store path) 0 len []))
+    children

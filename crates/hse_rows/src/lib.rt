@@ -1,0 +1,37 @@
+//! Rows and changes: keys, values, prefixes and names, and a commit's changes in normal form.
+#![tactic(auto)]
+
+mod change;
+mod edge;
+mod key;
+mod laws;
+mod name;
+mod normal_form;
+mod places;
+mod prefix;
+mod row;
+mod shared_bytes;
+mod store;
+mod value;
+mod write;
+mod write_set;
+
+pub use change::{Change, ChangeRef};
+pub use edge::Edge;
+pub use key::{Key, KeyFault};
+pub use laws::{
+    answers_lead_one_way, creations_may_come_first, keys_hold_last_effects, lines_have_one_answer,
+    normal_forms_do_the_same, normal_forms_overlap_the_same, overlaps_go_both_ways, snapshots_stay,
+    steps_keep_limits, steps_keep_states, steps_record_events,
+};
+pub use name::{NameFault, StoreName};
+pub use normal_form::{charges_grow_by_the_change_at_most, normal_forms_are_in_order};
+pub use prefix::{Prefix, PrefixFault};
+pub use row::{Row, RowRef};
+pub use store::{Mode, StoreId};
+pub use value::{Value, ValueFault};
+pub use write::Write;
+pub use write_set::WriteSet;
+
+#[cfg(test)]
+mod tests;

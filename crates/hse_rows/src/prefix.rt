@@ -1,0 +1,96 @@
+//! The prefix of a prefix delete.
+ghost use Rattle.std.specs.Prelude.{◌≡◌, ◌↔◌, IsTrue, length as number_of, IfOk, IfErr};
+ghost use Rattle.hse_rows.specs.Change.{Covers, covers};
+ghost use Rattle.hse_rows.specs.Lengths.{IsPrefixLength, FitsPrefix};
+ghost use Rattle.hse_rows.specs.Refusals.{RefusesPrefix};
+
+use crate::shared_bytes::SharedBytes;
+use hse_io::NoMemory;
+use std::alloc::Global;
+use std::marker::Model;
+use thiserror::Error;
+
+/// The bytes that the keys of a prefix delete begin with, 1 to 32. Prefixes are in the order of
+/// their bytes.
+#[derive(Drop, PartialEq, Eq, PartialOrd, Ord)]
+pub struct Prefix {
+    bytes: SharedBytes,
+}
+
+impl Model for Prefix {
+    ghost use Rattle.std.specs.Prelude.{List, ℕ, length};
+    ghost use Rattle.hse_rows.specs.Lengths.{IsPrefixLength};
+
+    ghost Value = { List ℕ };
+
+    ghost view = { λ p. p.bytes };
+
+    ghost inverse = { λ bytes. record { bytes = bytes } };
+
+    ghost invariant = { λ p. IsPrefixLength (length p.bytes) };
+}
+
+/// Why no prefix was made.
+#[derive(Clone, Copy, Debug, PartialEq, Eq, Error)]
+pub enum PrefixFault {
+    /// The number of bytes that were given.
+    #[error("{0} bytes are no prefix of this length")]
+    Length(u64),
+    #[error("out of memory")]
+    NoMemory,
+}
+
+impl From<NoMemory> for PrefixFault {
+    ghost use Rattle.std.specs.Prelude.{◌≡◌};
+    ghost use Rattle.hse_rows.specs.declared.prefix.PrefixFault.TheVariants.{NoMemory as OutOfMemory};
+
+    ghost from_gives = { λ _ fault. fault ≡ OutOfMemory };
+
+    fn from(_: NoMemory) -> Self {
+        PrefixFault::NoMemory
+    }
+}
+
+/// The most bytes that a prefix has.
+const LONGEST_PREFIX: u8 = 32;
+
+impl Prefix {
+    /// A prefix of these bytes for a store with this prefix length. `Length` comes exactly where
+    /// the length is not 1 to 32 or is not the number of the bytes, with their number.
+    pub fn new(alloc: Global, bytes: &[u8], length: u8) -> Result<Prefix, PrefixFault>
+        ensures made { IfOk result (λ prefix. prefix ≡ bytes.now) }
+        ensures within { IfOk result (λ prefix. FitsPrefix length (number_of prefix)) }
+        ensures refused { IfErr result (RefusesPrefix length (number_of bytes.now)) }
+    {
+        if length == 0 || length > LONGEST_PREFIX || bytes.len() != length as usize {
+            return Err(PrefixFault::Length(bytes.len() as u64));
+        }
+        let bytes = SharedBytes::new(alloc, bytes)?;
+        Ok(Prefix { bytes })
+    }
+
+    /// The prefix's bytes. It takes no memory.
+    pub fn bytes(&self) -> &[u8]
+        ensures value { result.now ≡ self.now }
+        ensures within { IsPrefixLength (number_of self.now) }
+    {
+        self.bytes.bytes()
+    }
+
+    /// One more owner of the same prefix.
+    pub fn share(&self, _alloc: Global) -> Result<Prefix, NoMemory>
+        ensures { IfOk result (λ prefix. prefix ≡ self.now) }
+    {
+        let bytes = self.bytes.share()?;
+        Ok(Prefix { bytes })
+    }
+
+    /// Whether the prefix covers a key: the key is at least as long and begins with it. It takes no
+    /// memory.
+    pub fn covers(&self, key: &[u8]) -> bool
+        ensures test { result ≡ covers self.now key.now }
+        ensures meaning { IsTrue result ↔ Covers self.now key.now }
+    {
+        key.starts_with(self.bytes())
+    }
+}

@@ -1,0 +1,75 @@
+//! The value of a pair.
+ghost use Rattle.std.specs.Prelude.{◌≡◌, ◌≤◌, length, IfOk, IfErr};
+ghost use Rattle.hse_rows.specs.Refusals.{RefusesValue};
+
+use crate::shared_bytes::SharedBytes;
+use hse_io::NoMemory;
+use std::alloc::Global;
+use std::marker::Model;
+use thiserror::Error;
+
+/// The bytes of a value.
+#[derive(Drop)]
+pub struct Value {
+    bytes: SharedBytes,
+}
+
+impl Model for Value {
+    ghost use Rattle.std.specs.Prelude.{List, ℕ};
+
+    ghost Value = { List ℕ };
+
+    ghost view = { λ v. v.bytes };
+}
+
+/// Why no value was made.
+#[derive(Clone, Copy, Debug, PartialEq, Eq, Error)]
+pub enum ValueFault {
+    /// The number of bytes that were given.
+    #[error("a value of {0} bytes is too long")]
+    Length(u64),
+    #[error("out of memory")]
+    NoMemory,
+}
+
+impl From<NoMemory> for ValueFault {
+    ghost use Rattle.std.specs.Prelude.{◌≡◌};
+    ghost use Rattle.hse_rows.specs.declared.value.ValueFault.TheVariants.{NoMemory as OutOfMemory};
+
+    ghost from_gives = { λ _ fault. fault ≡ OutOfMemory };
+
+    fn from(_: NoMemory) -> Self {
+        ValueFault::NoMemory
+    }
+}
+
+impl Value {
+    /// A value of these bytes. `Length` comes exactly where they are more than `most`, with their
+    /// number.
+    pub fn new(alloc: Global, bytes: &[u8], most: u64) -> Result<Value, ValueFault>
+        ensures made { IfOk result (λ value. value ≡ bytes.now) }
+        ensures within { IfOk result (λ value. length value ≤ most) }
+        ensures refused { IfErr result (RefusesValue most (length bytes.now)) }
+    {
+        if bytes.len() as u64 > most {
+            return Err(ValueFault::Length(bytes.len() as u64));
+        }
+        let bytes = SharedBytes::new(alloc, bytes)?;
+        Ok(Value { bytes })
+    }
+
+    /// The value's bytes. It takes no memory.
+    pub fn bytes(&self) -> &[u8]
+        ensures { result.now ≡ self.now }
+    {
+        self.bytes.bytes()
+    }
+
+    /// One more owner of the same value.
+    pub fn share(&self, _alloc: Global) -> Result<Value, NoMemory>
+        ensures { IfOk result (λ value. value ≡ self.now) }
+    {
+        let bytes = self.bytes.share()?;
+        Ok(Value { bytes })
+    }
+}
