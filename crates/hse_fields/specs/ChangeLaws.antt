@@ -1,0 +1,210 @@
+-- Changes that are read are those that were written, and what was written is read again.
+use Rattle.std.specs.Prelude.{◌≡◌, ◌⊎◌, ℕ, ◌^◌, ◌<◌, ◌≤◌, Bool, true, false, List, [], ◌++◌, length, Option, Some, None, Result, Ok, nat_lt, nat_le, ◌==◌, ◌||◌, if◌then◌else◌}
+use Rattle.std.specs.Ordering.{ordering_then, is_lt, nat_cmp}
+use Rattle.std.specs.declared.cmp.Ordering.{Ordering}
+use Rattle.std.specs.declared.cmp.Ordering.TheVariants.{Less, Equal, Greater}
+use Rattle.std.specs.Cmp.Lexicographic.{slice_cmp}
+use Rattle.std.proofs.Common.{refl, sym, ap, subst, ◌∙◌, append_assoc, arith, inl, inr, cond}
+use Rattle.std.proofs.lemmas.Bool.{ltb-true, le-leb, lt-ltb, eqb-true}
+use Rattle.byteorder.specs.Endian.{big_bytes}
+use Rattle.hse_fields.specs.LogText.{Kind, put, del, pdel, Change, code, sized, value_text, change_text, head_text}
+use Rattle.hse_fields.specs.LogOrder.{rank, may_follow, kind_may_follow, store_may_follow}
+use Rattle.hse_fields.specs.LogForm.{longest_name, ValueFits, IsChange}
+use Rattle.hse_fields.specs.LogReading.{◌>>=◌, ensure, given, number_of, sized_of, kind_with, kind_of, value_of, change, change_of}
+use Rattle.hse_fields.specs.FieldLaws.{IsBytes, bind_ok, ensure_ok, given_ok, ok_is, Takes, Takes-then, width_1, width_2, width_4, width_8, number_takes, number_again, sized_takes, sized_again}
+
+-- ---- the order
+
+then_cases : (x y : Bool) (o : Ordering) → is_lt (ordering_then (cond x Less (cond y Equal Greater)) o) ≡ true
+    → (x ≡ true) ⊎ ((y ≡ true) × (is_lt o ≡ true))
+then_cases true y o e = inl refl
+then_cases false true o e = inr (refl, e)
+then_cases false false o e = absurd cc
+
+then_lt : (a b : ℕ) (o : Ordering) → is_lt (ordering_then (nat_cmp a b) o) ≡ true → (a < b) ⊎ ((a ≡ b) × (is_lt o ≡ true))
+then_lt a b o e =
+    elim (then_cases (nat_lt a b) (a == b) o e) [
+      | inl h ↦ inl (ltb-true a b h)
+      | inr h ↦ inr (eqb-true a b h.0, h.1)
+    ]
+
+or_left : (x y : Bool) → x ≡ true → (x || y) ≡ true
+or_left true y e = refl
+or_left false y e = absurd cc
+
+or_right : (x y : Bool) → y ≡ true → (x || y) ≡ true
+or_right true y e = refl
+or_right false y e = e
+
+pub kind_follows : (last : Option Change) (c : Change) → may_follow last c ≡ true → kind_may_follow last c.kind ≡ true
+kind_follows None c e = refl
+kind_follows (Some l) c e =
+    elim (then_lt (rank l.kind) (rank c.kind) (ordering_then (nat_cmp l.store c.store) (slice_cmp nat_cmp l.name c.name)) e) [
+      | inl h ↦ le-leb _ _ (omega arith)
+      | inr h ↦ le-leb _ _ (omega (arith, h.0))
+    ]
+
+pub store_follows : (last : Option Change) (c : Change) → may_follow last c ≡ true → store_may_follow last c.kind c.store ≡ true
+store_follows None c e = refl
+store_follows (Some l) c e =
+    elim (then_lt (rank l.kind) (rank c.kind) (ordering_then (nat_cmp l.store c.store) (slice_cmp nat_cmp l.name c.name)) e) [
+      | inl h ↦ or_left (nat_lt (rank l.kind) (rank c.kind)) (nat_le l.store c.store) (lt-ltb _ _ h)
+      | inr h ↦ or_right (nat_lt (rank l.kind) (rank c.kind)) (nat_le l.store c.store)
+          (elim (then_lt l.store c.store (slice_cmp nat_cmp l.name c.name) h.1) [
+            | inl less ↦ le-leb _ _ (omega arith)
+            | inr same ↦ le-leb _ _ (omega (arith, same.0))
+          ])
+    ]
+
+-- the order does not look at values
+pub may_follow-value : (last : Option Change) (kind : Kind) (store : ℕ) (name value : List ℕ)
+    → may_follow last (change kind store name []) ≡ may_follow last (change kind store name value)
+may_follow-value None kind store name value = refl
+may_follow-value (Some l) kind store name value = refl
+
+-- ---- one change
+
+chosen : {A : Type 0} (b : Bool) (x y z : A) → cond b x y ≡ z → ((b ≡ true) × (x ≡ z)) ⊎ ((b ≡ false) × (y ≡ z))
+chosen true x y z e = inl (refl, e)
+chosen false x y z e = inr (refl, e)
+
+same_some : {A : Type 0} (x y : A) → Some x ≡ Some y → x ≡ y
+same_some x y e = cc
+
+no_some : {A : Type 0} (x : A) → None ≡ Some x → ⊥
+no_some x e = cc
+
+kind_with-code : (byte : ℕ) (kind : Kind) → kind_with byte ≡ Some kind → byte ≡ code kind
+kind_with-code byte kind e =
+    elim (chosen (byte == 1) (Some put) (if byte == 2 then Some del else (if byte == 3 then Some pdel else None)) (Some kind) e) [
+      | inl one ↦ eqb-true byte 1 one.0 ∙ ap code (same_some put kind one.1)
+      | inr more ↦ elim (chosen (byte == 2) (Some del) (if byte == 3 then Some pdel else None) (Some kind) more.1) [
+        | inl two ↦ eqb-true byte 2 two.0 ∙ ap code (same_some del kind two.1)
+        | inr most ↦ elim (chosen (byte == 3) (Some pdel) None (Some kind) most.1) [
+          | inl three ↦ eqb-true byte 3 three.0 ∙ ap code (same_some pdel kind three.1)
+          | inr none ↦ absurd (no_some kind none.1)
+        ]
+      ]
+    ]
+
+pub kind_takes : (last : Option Change) (bytes : List ℕ) (x : Kind × List ℕ) → IsBytes bytes → kind_of last bytes ≡ Ok x
+    → Takes bytes (big_bytes 1 (code x.0)) x.1
+unfolding kind_of
+kind_takes last bytes x fits e =
+    let a = bind_ok (number_of 1 bytes) (λ byte. given (kind_with byte.0) (length bytes) >>= λ kind. (ensure (kind_may_follow last kind) (length bytes) >>= λ in_order. Ok (kind, byte.1))) x e in
+    let byte = a.0 in
+    let b = bind_ok (given (kind_with byte.0) (length bytes)) (λ kind. ensure (kind_may_follow last kind) (length bytes) >>= λ in_order. Ok (kind, byte.1)) x a.2 in
+    let kind = b.0 in
+    let c = bind_ok (ensure (kind_may_follow last kind) (length bytes)) (λ in_order. Ok (kind, byte.1)) x b.2 in
+    let t = number_takes 1 width_1 bytes byte.0 byte.1 fits a.1 in
+    let is : byte.0 ≡ code kind = kind_with-code byte.0 kind (given_ok (kind_with byte.0) (length bytes) kind b.1) in
+    let taken : Takes bytes (big_bytes 1 (code kind)) byte.1 = subst (λ (k : ℕ). Takes bytes (big_bytes 1 k) byte.1) is t.0 in
+    subst (λ (y : Kind × List ℕ). Takes bytes (big_bytes 1 (code y.0)) y.1) (ok_is (kind, byte.1) x c.2) taken
+
+code_small : (kind : Kind) → code kind < 256 ^ 1
+code_small put = omega arith
+code_small del = omega arith
+code_small pdel = omega arith
+
+kind_with_its_code : (kind : Kind) → kind_with (code kind) ≡ Some kind
+kind_with_its_code put = refl
+kind_with_its_code del = refl
+kind_with_its_code pdel = refl
+
+pub kind_again : (last : Option Change) (kind : Kind) (rest : List ℕ) → kind_may_follow last kind ≡ true
+    → kind_of last (big_bytes 1 (code kind) ++ rest) ≡ Ok (kind, rest)
+unfolding kind_of
+kind_again last kind rest follows = rw (number_again 1 (code kind) rest (code_small kind), kind_with_its_code kind, follows) refl
+
+pub value_takes : (kind : Kind) (most : ℕ) (bytes : List ℕ) (x : List ℕ × List ℕ) → IsBytes bytes → value_of kind most bytes ≡ Ok x
+    → Takes bytes (value_text kind x.0) x.1 × ValueFits most kind x.0
+unfolding value_of
+value_takes put most bytes x fits e = let t = sized_takes 4 width_4 0 most bytes x.0 x.1 fits e in (t.0, t.2)
+value_takes del most bytes x fits e =
+    subst (λ (y : List ℕ × List ℕ). Takes bytes [] y.1 × (y.0 ≡ [])) (ok_is ([], bytes) x e) (record { parts = refl; rest_fits = fits }, refl)
+value_takes pdel most bytes x fits e =
+    subst (λ (y : List ℕ × List ℕ). Takes bytes [] y.1 × (y.0 ≡ [])) (ok_is ([], bytes) x e) (record { parts = refl; rest_fits = fits }, refl)
+
+pub value_again : (kind : Kind) (most : ℕ) (value rest : List ℕ) → most < 2 ^ 32 → ValueFits most kind value
+    → value_of kind most (value_text kind value ++ rest) ≡ Ok (value, rest)
+unfolding value_of
+value_again put most value rest small fits = sized_again 4 0 most value rest (omega arith) (omega arith) fits
+value_again del most value rest small fits = ap (λ (v : List ℕ). Ok (v, rest)) (sym fits)
+value_again pdel most value rest small fits = ap (λ (v : List ℕ). Ok (v, rest)) (sym fits)
+
+abbrev from_value : Kind → ℕ → List ℕ → List ℕ × List ℕ → Result (Change × List ℕ) ℕ
+from_value kind store name value = Ok (change kind store name value.0, value.1)
+
+abbrev from_name : ℕ → Option Change → List ℕ → Kind → ℕ → List ℕ × List ℕ → Result (Change × List ℕ) ℕ
+from_name most last bytes kind store name =
+    ensure (may_follow last (change kind store name.0 [])) (length bytes) >>= λ in_order.
+    (value_of kind most name.1 >>= from_value kind store name.0)
+
+abbrev from_store : ℕ → Option Change → List ℕ → Kind → ℕ × List ℕ → Result (Change × List ℕ) ℕ
+from_store most last bytes kind store =
+    ensure (store_may_follow last kind store.0) (length bytes) >>= λ in_order.
+    (sized_of 2 1 (longest_name kind) store.1 >>= from_name most last bytes kind store.0)
+
+abbrev from_kind : ℕ → Option Change → List ℕ → Kind × List ℕ → Result (Change × List ℕ) ℕ
+from_kind most last bytes kind = number_of 8 kind.1 >>= from_store most last bytes kind.0
+
+pub change_takes : (most : ℕ) (last : Option Change) (bytes : List ℕ) (x : Change × List ℕ) → IsBytes bytes → change_of most last bytes ≡ Ok x
+    → Takes bytes (change_text x.0) x.1 × IsChange most x.0 × (may_follow last x.0 ≡ true)
+unfolding change_of
+change_takes most last bytes x fits e =
+    let a = bind_ok (kind_of last bytes) (from_kind most last bytes) x e in
+    let kind = a.0.0 in
+    let b = bind_ok (number_of 8 a.0.1) (from_store most last bytes kind) x a.2 in
+    let store = b.0.0 in
+    let c = bind_ok (ensure (store_may_follow last kind store) (length bytes)) (λ in_order. sized_of 2 1 (longest_name kind) b.0.1 >>= from_name most last bytes kind store) x b.2 in
+    let d = bind_ok (sized_of 2 1 (longest_name kind) b.0.1) (from_name most last bytes kind store) x c.2 in
+    let name = d.0.0 in
+    let f = bind_ok (ensure (may_follow last (change kind store name [])) (length bytes)) (λ in_order. value_of kind most d.0.1 >>= from_value kind store name) x d.2 in
+    let g = bind_ok (value_of kind most d.0.1) (from_value kind store name) x f.2 in
+    let value = g.0.0 in
+    let t_kind = kind_takes last bytes a.0 fits a.1 in
+    let t_store = number_takes 8 width_8 a.0.1 store b.0.1 t_kind.rest_fits b.1 in
+    let t_name = sized_takes 2 width_2 1 (longest_name kind) b.0.1 name d.0.1 t_store.0.rest_fits d.1 in
+    let t_value = value_takes kind most d.0.1 g.0 t_name.0.rest_fits g.1 in
+    let two = Takes-then b.0.1 (sized 2 name) d.0.1 (value_text kind value) g.0.1 t_name.0 t_value.0 in
+    let three = Takes-then a.0.1 (big_bytes 8 store) b.0.1 (sized 2 name ++ value_text kind value) g.0.1 t_store.0 two in
+    let all = Takes-then bytes (big_bytes 1 (code kind)) a.0.1 (big_bytes 8 store ++ (sized 2 name ++ value_text kind value)) g.0.1 t_kind three in
+    let follows : may_follow last (change kind store name value) ≡ true =
+    sym (may_follow-value last kind store name value) ∙ ensure_ok _ _ _ f.1 in
+    let formed : IsChange most (change kind store name value) =
+    record { store = omega (arith, t_store.1); some_name = t_name.1; short_name = t_name.2; value_fits = t_value.1 } in
+    subst (λ (y : Change × List ℕ). Takes bytes (change_text y.0) y.1 × IsChange most y.0 × (may_follow last y.0 ≡ true))
+    (ok_is (change kind store name value, g.0.1) x g.2) (all, formed, follows)
+
+name_small : (kind : Kind) (n : ℕ) → n ≤ longest_name kind → n < 256 ^ 2
+name_small put n h = omega arith
+name_small del n h = omega arith
+name_small pdel n h = omega arith
+
+pub change_again : (most : ℕ) (last : Option Change) (c : Change) (rest : List ℕ) → most < 2 ^ 32 → IsChange most c → may_follow last c ≡ true
+    → change_of most last (change_text c ++ rest) ≡ Ok (c, rest)
+unfolding change_of
+change_again most last c rest small fits follows =
+    let v = value_text c.kind c.value in
+    let regrouped : change_text c ++ rest ≡ big_bytes 1 (code c.kind) ++ (big_bytes 8 c.store ++ (sized 2 c.name ++ (v ++ rest))) =
+    append_assoc (big_bytes 1 (code c.kind)) (big_bytes 8 c.store ++ (sized 2 c.name ++ v)) rest
+    ∙ ap (λ (l : List ℕ). big_bytes 1 (code c.kind) ++ l)
+    (append_assoc (big_bytes 8 c.store) (sized 2 c.name ++ v) rest
+    ∙ ap (λ (l : List ℕ). big_bytes 8 c.store ++ l) (append_assoc (sized 2 c.name) v rest)) in
+    let in_order : may_follow last (change c.kind c.store c.name []) ≡ true = may_follow-value last c.kind c.store c.name c.value ∙ follows in
+    ap (change_of most last) regrouped
+    ∙ rw (
+      kind_again last c.kind (big_bytes 8 c.store ++ (sized 2 c.name ++ (v ++ rest))) (kind_follows last c follows),
+      number_again 8 c.store (sized 2 c.name ++ (v ++ rest)) (omega (arith, fits.store)),
+      store_follows last c follows,
+      sized_again 2 1 (longest_name c.kind) c.name (v ++ rest) (name_small c.kind (length c.name) fits.short_name) fits.some_name fits.short_name,
+      in_order,
+      value_again c.kind most c.value rest small fits.value_fits,
+    ) refl
+
+-- a change is what stands before its value, and its value
+pub head_is : (c : Change) → change_text c ≡ head_text c.kind c.store c.name ++ value_text c.kind c.value
+head_is c =
+    let v = value_text c.kind c.value in
+    sym (append_assoc (big_bytes 1 (code c.kind)) (big_bytes 8 c.store ++ sized 2 c.name) v
+    ∙ ap (λ (l : List ℕ). big_bytes 1 (code c.kind) ++ l) (append_assoc (big_bytes 8 c.store) (sized 2 c.name) v))

@@ -1,0 +1,9 @@
+pub mod Fields
+pub mod LogText
+pub mod LogOrder
+pub mod LogForm
+pub mod LogReading
+pub mod FieldLaws
+pub mod ChangeLaws
+pub mod PayloadLaws
+pub mod WithinLaws

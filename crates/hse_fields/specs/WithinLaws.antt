@@ -1,0 +1,149 @@
+-- A refused field lies in what was read, and what is left is a part of it.
+use Rattle.std.specs.Prelude.{◌≡◌, ℕ, zero, suc, ◌+◌, ◌≤◌, Bool, true, false, List, [], ◌∷◌, length, take, drop, Option, Some, None, Result, Ok, Err, nat_lt, nat_le, ◌==◌, ◌&&◌}
+use Rattle.std.proofs.Common.{arith, cond}
+use Rattle.std.proofs.lemmas.List.{length-drop}
+use Rattle.byteorder.specs.Endian.{big_number}
+use Rattle.hse_fields.specs.LogText.{Kind, put, del, pdel, Change, Entry}
+use Rattle.hse_fields.specs.LogOrder.{may_follow, kind_may_follow, store_may_follow}
+use Rattle.hse_fields.specs.LogForm.{longest_name}
+use Rattle.hse_fields.specs.LogReading.{◌>>=◌, ensure, given, number_of, bytes_of, sized_of, kind_with, kind_of, value_of, change, change_of, more_changes_of, changes_of, Rule, entry_of, entries_of, payload_of}
+
+-- a reading of at most so many bytes
+abbrev pub Within : {A : Type 0} → ℕ → Result (A × List ℕ) ℕ → Type 0
+Within n (Ok x) = length x.1 ≤ n
+Within n (Err left) = left ≤ n
+
+wider : {A : Type 0} (m n : ℕ) (r : Result (A × List ℕ) ℕ) → m ≤ n → Within m r → Within n r
+wider m n (Ok x) le w = omega (arith, w)
+wider m n (Err left) le w = omega (arith, w)
+
+then : {A B : Type 0} (n : ℕ) (r : Result (A × List ℕ) ℕ) (f : A × List ℕ → Result (B × List ℕ) ℕ) → Within n r
+    → ((x : A × List ℕ) → length x.1 ≤ n → Within n (f x)) → Within n (r >>= f)
+then n (Ok x) f w more = more x w
+then n (Err left) f w more = w
+
+ensured : {A : Type 0} (n left : ℕ) (test : Bool) (f : Unit {0} → Result (A × List ℕ) ℕ) → left ≤ n → Within n (f tt)
+    → Within n (ensure test left >>= f)
+ensured n left true f le w = w
+ensured n left false f le w = le
+
+given_within : {A B : Type 0} (n left : ℕ) (o : Option A) (f : A → Result (B × List ℕ) ℕ) → left ≤ n → ((x : A) → Within n (f x))
+    → Within n (given o left >>= f)
+given_within n left (Some x) f le w = w x
+given_within n left None f le w = le
+
+cut : {A : Type 0} (test : Bool) (bytes : List ℕ) (value : A) (m : ℕ) → Within (length bytes) (cond test (Err (length bytes)) (Ok (value, drop m bytes)))
+cut true bytes value m = omega arith
+cut false bytes value m = omega (arith, length-drop m bytes)
+
+number_within : (m n : ℕ) (bytes : List ℕ) → length bytes ≤ n → Within n (number_of m bytes)
+number_within m n bytes le = wider (length bytes) n (number_of m bytes) le (cut (nat_lt (length bytes) m) bytes (big_number m (take m bytes)) m)
+
+bytes_within : (m n : ℕ) (bytes : List ℕ) → length bytes ≤ n → Within n (bytes_of m bytes)
+bytes_within m n bytes le = wider (length bytes) n (bytes_of m bytes) le (cut (nat_lt (length bytes) m) bytes (take m bytes) m)
+
+sized_within : (width least most n : ℕ) (bytes : List ℕ) → length bytes ≤ n → Within n (sized_of width least most bytes)
+unfolding sized_of
+sized_within width least most n bytes le =
+    then n (number_of width bytes) (λ size. ensure (nat_le least size.0 && nat_le size.0 most) (length bytes) >>= λ within. bytes_of size.0 size.1)
+    (number_within width n bytes le)
+    (λ size fits. ensured n (length bytes) (nat_le least size.0 && nat_le size.0 most) (λ within. bytes_of size.0 size.1) le (bytes_within size.0 n size.1 fits))
+
+kind_within : (last : Option Change) (n : ℕ) (bytes : List ℕ) → length bytes ≤ n → Within n (kind_of last bytes)
+unfolding kind_of
+kind_within last n bytes le =
+    then n (number_of 1 bytes) (λ byte. given (kind_with byte.0) (length bytes) >>= λ kind. (ensure (kind_may_follow last kind) (length bytes) >>= λ in_order. Ok (kind, byte.1)))
+    (number_within 1 n bytes le)
+    (λ byte fits. given_within n (length bytes) (kind_with byte.0) (λ kind. ensure (kind_may_follow last kind) (length bytes) >>= λ in_order. Ok (kind, byte.1)) le
+    (λ kind. ensured n (length bytes) (kind_may_follow last kind) (λ in_order. Ok (kind, byte.1)) le fits))
+
+value_within : (kind : Kind) (most n : ℕ) (bytes : List ℕ) → length bytes ≤ n → Within n (value_of kind most bytes)
+unfolding value_of
+value_within put most n bytes le = sized_within 4 0 most n bytes le
+value_within del most n bytes le = le
+value_within pdel most n bytes le = le
+
+pub change_within : (most : ℕ) (last : Option Change) (n : ℕ) (bytes : List ℕ) → length bytes ≤ n → Within n (change_of most last bytes)
+unfolding change_of
+change_within most last n bytes le =
+    then n (kind_of last bytes) (λ kind. number_of 8 kind.1 >>= λ store. (ensure (store_may_follow last kind.0 store.0) (length bytes) >>= λ store_in_order. (sized_of 2 1 (longest_name kind.0) store.1 >>= λ name. (ensure (may_follow last (change kind.0 store.0 name.0 [])) (length bytes) >>= λ in_order. (value_of kind.0 most name.1 >>= λ value. Ok (change kind.0 store.0 name.0 value.0, value.1))))))
+    (kind_within last n bytes le)
+    (λ kind h. then n (number_of 8 kind.1) (λ store. ensure (store_may_follow last kind.0 store.0) (length bytes) >>= λ store_in_order. (sized_of 2 1 (longest_name kind.0) store.1 >>= λ name. (ensure (may_follow last (change kind.0 store.0 name.0 [])) (length bytes) >>= λ in_order. (value_of kind.0 most name.1 >>= λ value. Ok (change kind.0 store.0 name.0 value.0, value.1)))))
+    (number_within 8 n kind.1 h)
+    (λ store i. ensured n (length bytes) (store_may_follow last kind.0 store.0) (λ store_in_order. sized_of 2 1 (longest_name kind.0) store.1 >>= λ name. (ensure (may_follow last (change kind.0 store.0 name.0 [])) (length bytes) >>= λ in_order. (value_of kind.0 most name.1 >>= λ value. Ok (change kind.0 store.0 name.0 value.0, value.1)))) le
+    (then n (sized_of 2 1 (longest_name kind.0) store.1) (λ name. ensure (may_follow last (change kind.0 store.0 name.0 [])) (length bytes) >>= λ in_order. (value_of kind.0 most name.1 >>= λ value. Ok (change kind.0 store.0 name.0 value.0, value.1)))
+    (sized_within 2 1 (longest_name kind.0) n store.1 i)
+    (λ name j. ensured n (length bytes) (may_follow last (change kind.0 store.0 name.0 [])) (λ in_order. value_of kind.0 most name.1 >>= λ value. Ok (change kind.0 store.0 name.0 value.0, value.1)) le
+    (then n (value_of kind.0 most name.1) (λ value. Ok (change kind.0 store.0 name.0 value.0, value.1)) (value_within kind.0 most n name.1 j) (λ value k. k))))))
+
+more_changes_within : (most : ℕ) (last : Option Change) (count n : ℕ) (bytes : List ℕ) → length bytes ≤ n → Within n (more_changes_of most last count bytes)
+unfolding more_changes_of
+more_changes_within most last zero n bytes le = le
+more_changes_within most last (suc count) n bytes le =
+    then n (change_of most last bytes) (λ first. more_changes_of most (Some first.0) count first.1 >>= λ others. Ok (first.0 ∷ others.0, others.1))
+    (change_within most last n bytes le)
+    (λ first h. then n (more_changes_of most (Some first.0) count first.1) (λ others. Ok (first.0 ∷ others.0, others.1))
+    (more_changes_within most (Some first.0) count n first.1 h) (λ others k. k))
+
+pub changes_within : (most n : ℕ) (bytes : List ℕ) → length bytes ≤ n → Within n (changes_of most bytes)
+unfolding changes_of
+changes_within most n bytes le =
+    then n (number_of 4 bytes) (λ count. ensure (nat_lt 0 count.0) (length bytes) >>= λ some. more_changes_of most None count.0 count.1)
+    (number_within 4 n bytes le)
+    (λ count h. ensured n (length bytes) (nat_lt 0 count.0) (λ some. more_changes_of most None count.0 count.1) le (more_changes_within most None count.0 n count.1 h))
+
+abbrev entry : ℕ → List Change → Entry
+entry number changes = record { number = number; changes = changes }
+
+entry_within : {S : Type 0} (rule : Rule S) (most : ℕ) (state : S) (n : ℕ) (bytes : List ℕ) → length bytes ≤ n → Within n (entry_of rule most state bytes)
+unfolding entry_of
+entry_within rule most state n bytes le =
+    then n (number_of 8 bytes) (λ number. ensure (rule.number_fits state number.0) (length bytes) >>= λ next. (changes_of most number.1 >>= λ changes. (given (rule.after state (entry number.0 changes.0)) (length bytes) >>= λ after. Ok ((entry number.0 changes.0, after), changes.1))))
+    (number_within 8 n bytes le)
+    (λ number h. ensured n (length bytes) (rule.number_fits state number.0) (λ next. changes_of most number.1 >>= λ changes. (given (rule.after state (entry number.0 changes.0)) (length bytes) >>= λ after. Ok ((entry number.0 changes.0, after), changes.1))) le
+    (then n (changes_of most number.1) (λ changes. given (rule.after state (entry number.0 changes.0)) (length bytes) >>= λ after. Ok ((entry number.0 changes.0, after), changes.1))
+    (changes_within most n number.1 h)
+    (λ changes i. given_within n (length bytes) (rule.after state (entry number.0 changes.0)) (λ after. Ok ((entry number.0 changes.0, after), changes.1)) le (λ after. i))))
+
+entries_within : {S : Type 0} (rule : Rule S) (most : ℕ) (state : S) (count n : ℕ) (bytes : List ℕ) → length bytes ≤ n → Within n (entries_of rule most state count bytes)
+unfolding entries_of
+entries_within rule most state zero n bytes le = le
+entries_within rule most state (suc count) n bytes le =
+    then n (entry_of rule most state bytes) (λ first. entries_of rule most first.0.1 count first.1 >>= λ others. Ok ((first.0.0 ∷ others.0.0, others.0.1), others.1))
+    (entry_within rule most state n bytes le)
+    (λ first h. then n (entries_of rule most first.0.1 count first.1) (λ others. Ok ((first.0.0 ∷ others.0.0, others.0.1), others.1))
+    (entries_within rule most first.0.1 count n first.1 h) (λ others k. k))
+
+-- where a payload is refused, in bytes before the end of its batch
+abbrev InBatch : {A : Type 0} → ℕ → Result A ℕ → Type 0
+InBatch n (Ok x) = Unit {0}
+InBatch n (Err left) = left ≤ 4 + n
+
+into_batch : {A B : Type 0} (n : ℕ) (r : Result (A × List ℕ) ℕ) (f : A × List ℕ → Result B ℕ) → Within n r
+    → ((x : A × List ℕ) → length x.1 ≤ n → InBatch n (f x)) → InBatch n (r >>= f)
+into_batch n (Ok x) f w more = more x w
+into_batch n (Err left) f w more = omega (arith, w)
+
+ensured_in_batch : {A : Type 0} (n left : ℕ) (test : Bool) (f : Unit {0} → Result A ℕ) → left ≤ 4 + n → InBatch n (f tt)
+    → InBatch n (ensure test left >>= f)
+ensured_in_batch n left true f le w = w
+ensured_in_batch n left false f le w = le
+
+all_in_batch : {S : Type 0} (rule : Rule S) (most : ℕ) (state : S) (bytes : List ℕ) → InBatch (length bytes) (payload_of rule most state bytes)
+unfolding payload_of
+all_in_batch rule most state bytes =
+    into_batch (length bytes) (number_of 4 bytes) (λ count. ensure (nat_lt 0 count.0) (length bytes) >>= λ some. (entries_of rule most state count.0 count.1 >>= λ read. (ensure (length read.1 == 0) (4 + length bytes) >>= λ ended. Ok read.0)))
+    (number_within 4 (length bytes) bytes (omega arith))
+    (λ count h. ensured_in_batch (length bytes) (length bytes) (nat_lt 0 count.0) (λ some. entries_of rule most state count.0 count.1 >>= λ read. (ensure (length read.1 == 0) (4 + length bytes) >>= λ ended. Ok read.0)) (omega arith)
+    (into_batch (length bytes) (entries_of rule most state count.0 count.1) (λ read. ensure (length read.1 == 0) (4 + length bytes) >>= λ ended. Ok read.0)
+    (entries_within rule most state count.0 (length bytes) count.1 h)
+    (λ read i. ensured_in_batch (length bytes) (4 + length bytes) (length read.1 == 0) (λ ended. Ok read.0) (omega arith) tt)))
+
+at_err : {A : Type 0} (n left : ℕ) (r : Result A ℕ) → r ≡ Err left → InBatch n r → left ≤ 4 + n
+at_err n left (Ok x) e w = absurd cc
+at_err n left (Err other) e w = let same : left ≡ other = cc in omega (arith, same, w)
+
+-- A payload is refused within its batch.
+pub payload_within : {S : Type 0} (rule : Rule S) (most : ℕ) (state : S) (bytes : List ℕ) (left : ℕ) → payload_of rule most state bytes ≡ Err left
+    → left ≤ 4 + length bytes
+payload_within rule most state bytes left e = at_err (length bytes) left (payload_of rule most state bytes) e (all_in_batch rule most state bytes)

@@ -1,0 +1,32 @@
+//! Laws of the fields, and of the log's text that is made of them. These functions do nothing; their
+//! contracts are the laws.
+ghost use Rattle.std.specs.Prelude.{◌≡◌, ◌^◌, ◌+◌, ◌<◌, ◌≤◌, ◌++◌, ℕ, List, length, Ok, Err, slice_index};
+ghost use Rattle.byteorder.specs.Endian.{big_bytes};
+ghost use Rattle.hse_fields.specs.Fields.{bytes_at, number_at};
+ghost use Rattle.hse_fields.specs.LogText.{Entry, payload_text};
+ghost use Rattle.hse_fields.specs.LogForm.{ArePayload};
+ghost use Rattle.hse_fields.specs.LogReading.{any, payload_of};
+
+/// What was put is taken again, whatever stands before and behind it.
+pub fn put_is_taken()
+    ensures numbers { (n number : ℕ) (front rest : List ℕ) → number < 256 ^ n
+        → number_at n (front ++ (big_bytes n number ++ rest)) (length front) ≡ Ok number }
+    ensures bytes { (bytes front rest : List ℕ)
+        → bytes_at (length bytes) (front ++ (bytes ++ rest)) (length front) ≡ Ok bytes }
+{}
+
+/// The log's text has one reading: a payload's bytes that are read are the text of what was read, and
+/// what is spelled so is read. So a payload that is refused is no text of the log, and the refused
+/// field lies in its batch, from the batch's length on.
+pub fn log_text_is_read()
+    ensures read { (most : ℕ) (bytes : List ℕ) (entries : List Entry)
+        → ((i : ℕ) → slice_index bytes i < 256) → payload_of any most tt bytes ≡ Ok (entries, tt)
+        → (bytes ≡ payload_text entries) × ArePayload most entries }
+    ensures spelled { (most : ℕ) (entries : List Entry) → most < 2 ^ 32 → ArePayload most entries
+        → payload_of any most tt (payload_text entries) ≡ Ok (entries, tt) }
+    ensures refused { (most left : ℕ) (bytes : List ℕ) (entries : List Entry) → most < 2 ^ 32
+        → payload_of any most tt bytes ≡ Err left → ArePayload most entries
+        → bytes ≡ payload_text entries → ⊥ }
+    ensures within { (most left : ℕ) (bytes : List ℕ) → payload_of any most tt bytes ≡ Err left
+        → left ≤ 4 + length bytes }
+{}
