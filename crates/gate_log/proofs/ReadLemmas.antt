@@ -40,3 +40,10 @@ ends region (gate ∷ rest) sequence payloads spelled framed some shut fits = (
   record { gate = gate; rest = rest; closed = shut; spelled = spelled; framed = framed; sequence_fits = fits },
   omega (arith, ap length spelled, length-append (open_part sequence payloads) (gate ∷ rest), length-open_part sequence payloads),
 )
+
+-- where the batches that were read so far end
+pub reached : (region rest : List ℕ) (sequence : ℕ) (payloads : List (List ℕ)) → region ≡ open_part sequence payloads ++ rest
+    → (length region - length rest ≡ tail_of payloads) × (length rest ≤ length region)
+reached region rest sequence payloads spelled =
+    let long = ap length spelled ∙ length-append (open_part sequence payloads) rest in
+    (omega (arith, long, length-open_part sequence payloads), omega (arith, long))

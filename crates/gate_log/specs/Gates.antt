@@ -42,6 +42,16 @@ IsShut (gate ∷ rest) = gate ≢ open_gate
 abbrev pub IsCutOff : List ℕ → Type 0
 IsCutOff rest = length rest < 5 + big_number 4 rest
 
+-- The region holds these batches, and behind them stands an open gate whose batch is cut off. At this
+-- place stands the length of that batch.
+pub record IsCutOffAt (region : List ℕ) (sequence : ℕ) (payloads : List (List ℕ)) (place : ℕ) : Type 0 where
+  pub rest : List ℕ
+  pub cut_off : IsCutOff rest
+  pub spelled : region ≡ open_part sequence payloads ++ open_gate ∷ rest
+  pub framed : AreFramed payloads
+  pub sequence_fits : sequence < 2 ^ 64
+  pub place_is : place ≡ length (open_part sequence payloads) + 1
+
 -- The region is refused at this place: the length of the first batch that is cut off.
 pub record DamagedAt (region : List ℕ) (place : ℕ) : Type 0 where
   pub sequence : ℕ

@@ -5,5 +5,6 @@ pub mod Crashes
 pub mod Spelling
 pub mod Reading
 pub mod OneReading
+pub mod OneFront
 pub mod Ranges
 pub mod Regions

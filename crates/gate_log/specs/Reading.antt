@@ -1,15 +1,45 @@
 -- What a reading of a region answers.
-use Rattle.std.specs.Prelude.{◌≡◌, ℕ, ◌<◌, List, map, Option, Some, None, Result, Ok, Err}
-use Rattle.gate_log.specs.Gates.{Gated, IsShut, DamagedAt}
+use Rattle.std.specs.Prelude.{◌≡◌, ℕ, ◌+◌, ◌<◌, ◌≤◌, List, map, Option, Some, None, Result, Ok, Err}
+use Rattle.gate_log.specs.Gates.{Gated, IsShut, IsCutOffAt, DamagedAt}
 use Rattle.gate_log.specs.Places.{tail_of}
 use Rattle.gate_log.specs.declared.found.Found.{Found}
 use Rattle.gate_log.specs.declared.found.Payload.{Payload}
+use Rattle.gate_log.specs.declared.front.End.{End}
+use Rattle.gate_log.specs.declared.front.End.TheVariants.{Closed, CutOff}
+use Rattle.gate_log.specs.declared.front.Front.{Front}
+use Rattle.gate_log.specs.declared.front.FrontFault.{FrontFault}
+use Rattle.gate_log.specs.declared.front.FrontFault.TheVariants as front
 use Rattle.gate_log.specs.declared.found.RegionFault.{RegionFault}
 use Rattle.gate_log.specs.declared.found.RegionFault.TheVariants.{Damaged, Device, NoMemory}
 
 -- the batches' bytes
 abbrev pub payloads_of : List Payload → List (List ℕ)
 payloads_of batches = map (λ payload. payload.bytes.items) batches
+
+-- what stands behind these batches of the region
+abbrev pub Ends : List ℕ → ℕ → List (List ℕ) → End → Type 0
+Ends region sequence payloads (Closed tail) =
+    Gated region sequence payloads × (tail.gate ≡ tail_of payloads)
+Ends region sequence payloads (CutOff place) = IsCutOffAt region sequence payloads place
+
+-- this is what the region holds, up to what ends its batches
+abbrev pub IsFront : List ℕ → Option Front → Type 0
+IsFront region (Some front) = Ends region front.sequence (payloads_of front.batches.items) front.end
+IsFront region None = IsShut region
+
+-- these batches and what stands behind them lie inside a region of this size
+abbrev pub LiesInside : ℕ → List (List ℕ) → End → Type 0
+LiesInside size payloads (Closed tail) = (tail.gate ≡ tail_of payloads) × (tail.gate < size)
+LiesInside size payloads (CutOff place) = (place ≡ tail_of payloads + 1) × (place ≤ size)
+
+abbrev pub EndsInside : ℕ → Option Front → Type 0
+EndsInside size (Some front) = LiesInside size (payloads_of front.batches.items) front.end
+EndsInside size None = Unit {0}
+
+-- the fault is the same
+abbrev pub IsSameFault : FrontFault → RegionFault → Type 0
+IsSameFault front.Device fault = fault ≡ Device
+IsSameFault front.NoMemory fault = fault ≡ NoMemory
 
 -- what was found is what the region holds, and where its batches end
 pub record IsFound (region : List ℕ) (found : Found) : Type 0 where

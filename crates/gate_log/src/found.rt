@@ -1,8 +1,6 @@
 //! What a reading of a region gives.
 
-use crate::Tail;
-use media_disk::Failed;
-use std::alloc::AllocError;
+use crate::{FrontFault, Tail};
 use thiserror::Error;
 
 /// The payload of one batch.
@@ -33,24 +31,15 @@ pub enum RegionFault {
     NoMemory,
 }
 
-impl From<Failed> for RegionFault {
-    ghost use Rattle.std.specs.Prelude.{◌≡◌};
-    ghost use Rattle.gate_log.specs.declared.found.RegionFault.TheVariants.{Device};
+impl From<FrontFault> for RegionFault {
+    ghost use Rattle.gate_log.specs.Reading.{IsSameFault};
 
-    ghost from_gives = { λ _ fault. fault ≡ Device };
+    ghost from_gives = { λ fault same. IsSameFault fault same };
 
-    fn from(_: Failed) -> Self {
-        RegionFault::Device
-    }
-}
-
-impl From<AllocError> for RegionFault {
-    ghost use Rattle.std.specs.Prelude.{◌≡◌};
-    ghost use Rattle.gate_log.specs.declared.found.RegionFault.TheVariants.{NoMemory};
-
-    ghost from_gives = { λ _ fault. fault ≡ NoMemory };
-
-    fn from(_: AllocError) -> Self {
-        RegionFault::NoMemory
+    fn from(fault: FrontFault) -> Self {
+        match fault {
+            FrontFault::Device => RegionFault::Device,
+            FrontFault::NoMemory => RegionFault::NoMemory,
+        }
     }
 }

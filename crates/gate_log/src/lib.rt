@@ -4,6 +4,7 @@
 mod appending;
 mod batch;
 mod found;
+mod front;
 mod gate;
 mod laws;
 mod parse;
@@ -15,8 +16,9 @@ mod through;
 pub use appending::{AppendFault, append};
 pub use batch::Batch;
 pub use found::{Found, Payload, RegionFault};
+pub use front::{End, Front, FrontFault};
 pub use laws::one_reading;
-pub use reading::read_region;
+pub use reading::{read_front, read_region};
 pub use region::{Region, Tail};
 pub use starting::start;
 

@@ -1,11 +1,11 @@
 //! Reads a region's bytes.
-ghost use Rattle.std.specs.Prelude.{◌≡◌, ℕ, ◌+◌, ◌^◌, ◌<◌, ◌≤◌, [], ◌∷◌, ◌++◌, length, IfSome, IfNone, IfOk, OnOk, IfErr, IsErrOf};
+ghost use Rattle.std.specs.Prelude.{◌≡◌, ℕ, ◌+◌, ◌^◌, ◌<◌, ◌≤◌, List, [], ◌∷◌, ◌++◌, length, IfSome, IfNone, IfOk, OnOk, IfErr, IsErrOf};
 ghost use Rattle.byteorder.specs.Endian.{big_bytes};
 ghost use Rattle.gate_log.specs.Gates.{IsCutOff};
-ghost use Rattle.gate_log.specs.Reading.{payloads_of, IsReading, IsInside};
+ghost use Rattle.gate_log.specs.Reading.{payloads_of, IsFront, EndsInside, IsReading, IsInside};
 
 use crate::gate::OPEN_GATE;
-use crate::{Found, Payload, RegionFault, Tail};
+use crate::{End, Found, Front, Payload, RegionFault, Tail};
 use byteorder::{BigEndian, ByteOrder};
 use std::alloc::{AllocError, Global};
 
@@ -39,12 +39,11 @@ fn keep(alloc: Global, batches: &mut Vec<Payload>, payload: &[u8]) -> Result<(),
     Ok(())
 }
 
-/// What the bytes of a region hold, or the place of the first batch that is cut off.
-pub(crate) fn found_in(alloc: Global, region: &[u8]) -> Result<Option<Found>, RegionFault>
+/// What the bytes of a region hold, up to what ends its batches.
+pub(crate) fn front_in(alloc: Global, region: &[u8]) -> Result<Option<Front>, AllocError>
     requires { 10 ≤ length region.now }
-    ensures found { IsReading region.now result }
-    ensures inside { IsInside (length region.now) result }
-    ensures device { IsErrOf result RegionFault.Device → ⊥ }
+    ensures found { IfOk result (IsFront region.now) }
+    ensures inside { IfOk result (EndsInside (length region.now)) }
 {
     if region[0] != OPEN_GATE {
         return Ok(None);
@@ -54,16 +53,47 @@ pub(crate) fn found_in(alloc: Global, region: &[u8]) -> Result<Option<Found>, Re
     let mut rest = &region[9..];
     while rest[0] == OPEN_GATE {
         let Some((payload, behind)) = first_payload(&rest[1..]) else {
-            return Err(RegionFault::Damaged((region.len() - rest.len() + 1) as u64));
+            let end = End::CutOff((region.len() - rest.len() + 1) as u64);
+            return Ok(Some(Front {
+                sequence,
+                batches,
+                end,
+            }));
         };
         keep(alloc, &mut batches, payload)?;
         rest = behind;
     }
     let gate = (region.len() - rest.len()) as u64;
-    let tail = Tail { gate };
-    Ok(Some(Found {
+    let end = End::Closed(Tail { gate });
+    Ok(Some(Front {
         sequence,
         batches,
-        tail,
+        end,
     }))
+}
+
+/// A front as what was found, or the place at which its region is damaged.
+pub(crate) fn found_in(front: Option<Front>) -> Result<Option<Found>, RegionFault>
+    ensures found { (region : List ℕ) → IsFront region front → IsReading region result }
+    ensures inside { (size : ℕ) → EndsInside size front → IsInside size result }
+    ensures device { IsErrOf result RegionFault.Device → ⊥ }
+{
+    let Some(
+        Front {
+            sequence,
+            batches,
+            end,
+        },
+    ) = front
+    else {
+        return Ok(None);
+    };
+    match end {
+        End::Closed(tail) => Ok(Some(Found {
+            sequence,
+            batches,
+            tail,
+        })),
+        End::CutOff(place) => Err(RegionFault::Damaged(place)),
+    }
 }

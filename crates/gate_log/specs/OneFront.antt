@@ -1,0 +1,45 @@
+-- No region has two fronts: it holds one sequence with one list of batches, and one end stands behind them.
+use Rattle.std.specs.Prelude.{◌≡◌, ℕ, ◌+◌, List, ◌∷◌, ◌++◌, length}
+use Rattle.std.proofs.Common.{refl, sym, ◌∙◌, ap, subst, inl, inr}
+use Rattle.gate_log.specs.Gates.{Gated, IsShut, IsCutOffAt, open_gate, open_part}
+use Rattle.gate_log.specs.Places.{tail_of}
+use Rattle.gate_log.specs.Reading.{Ends}
+use Rattle.gate_log.specs.declared.front.End.{End}
+use Rattle.gate_log.specs.declared.front.End.TheVariants.{Closed, CutOff}
+use Rattle.gate_log.specs.declared.region.Tail.{Tail}
+use Rattle.gate_log.specs.OneReading.{same_spelling, one_gated, gated_not_shut}
+
+gated_not_cut_off : (region : List ℕ) (sequence other : ℕ) (payloads others : List (List ℕ)) (place : ℕ)
+    → Gated region sequence payloads → IsCutOffAt region other others place → ⊥
+gated_not_cut_off region sequence other payloads others place gated cut =
+    let same = same_spelling sequence other payloads others (gated.gate ∷ gated.rest) (open_gate ∷ cut.rest)
+    gated.sequence_fits cut.sequence_fits gated.framed cut.framed (inl gated.closed) (inr cut.cut_off)
+    (sym gated.spelled ∙ cut.spelled) in
+    let heads : gated.gate ∷ gated.rest ≡ open_gate ∷ cut.rest = same.2 in
+    gated.closed cc
+
+same_tail : (a b : Tail) → a.gate ≡ b.gate → a ≡ b
+same_tail a b e = λ i. record { gate = e i }
+
+pub one_front : (region : List ℕ) (sequence other : ℕ) (payloads others : List (List ℕ)) (end ending : End)
+    → Ends region sequence payloads end → Ends region other others ending
+    → (sequence ≡ other) × (payloads ≡ others) × (end ≡ ending)
+one_front region sequence other payloads others (Closed tail) (Closed last) first second =
+    let same = one_gated region sequence other payloads others first.0 second.0 in
+    (same.0, same.1, ap (λ (t : Tail). Closed t) (same_tail tail last (first.1 ∙ ap tail_of same.1 ∙ sym second.1)))
+one_front region sequence other payloads others (Closed tail) (CutOff place) first second =
+    absurd (gated_not_cut_off region sequence other payloads others place first.0 second)
+one_front region sequence other payloads others (CutOff place) (Closed tail) first second =
+    absurd (gated_not_cut_off region other sequence others payloads place second.0 first)
+one_front region sequence other payloads others (CutOff place) (CutOff last) first second =
+    let same = same_spelling sequence other payloads others (open_gate ∷ first.rest) (open_gate ∷ second.rest)
+    first.sequence_fits second.sequence_fits first.framed second.framed (inr first.cut_off) (inr second.cut_off)
+    (sym first.spelled ∙ second.spelled) in
+    (same.0, same.1, ap (λ (p : ℕ). CutOff p) (first.place_is ∙ (λ i. length (open_part (same.0 i) (same.1 i)) + 1) ∙ sym second.place_is))
+
+-- a region with a front has an open head
+pub front_not_shut : (region : List ℕ) (sequence : ℕ) (payloads : List (List ℕ)) (end : End) → Ends region sequence payloads end → IsShut region → ⊥
+front_not_shut region sequence payloads (Closed tail) ends shut = gated_not_shut region sequence payloads ends.0 shut
+front_not_shut region sequence payloads (CutOff place) ends shut =
+    let closed : IsShut (open_part sequence payloads ++ open_gate ∷ ends.rest) = subst IsShut ends.spelled shut in
+    closed refl
