@@ -1,0 +1,71 @@
+-- Reading batches one after the other, as a loop does.
+use Rattle.std.proofs.Common.{◌≡◌, ℕ, ◌+◌, ◌≤◌, ◌<◌, List, ◌∷◌, ◌++◌, length, get_or, drop, Result, Ok, Err, refl, sym, ap, ◌∙◌, append_assoc}
+use Rattle.std.specs.List.{sum_by}
+use Rattle.std.proofs.lemmas.List.{append-nil, drop_more, drop_all}
+use Rattle.std.proofs.lemmas.List.Sums.{sum_by-cons}
+use Rattle.gate_log.specs.Places.{need_of}
+use Rattle.gate_log.specs.Reading.{payloads_of}
+use Rattle.gate_log.specs.declared.found.Payload.{Payload}
+use Rattle.hse_fields.specs.LogText.{Entry}
+use Rattle.hse_fields.specs.LogReading.{◌>>=◌, payload_of}
+use Rattle.wal.specs.declared.segment.SegmentFault.{SegmentFault}
+use Rattle.wal.specs.declared.segment.SegmentFault.TheVariants.{Damaged, Device, NoMemory}
+use Rattle.wal.specs.Given.{Refuses}
+use Rattle.wal.specs.Numbering.{Numbers, numbering}
+use Rattle.wal.specs.Replaying.{before, batches_of}
+
+-- what was read before, and what is still read
+abbrev pub with_front : List Entry → Result (List Entry × Numbers) ℕ → Result (List Entry × Numbers) ℕ
+with_front front read = read >>= λ x. Ok (front ++ x.0, x.1)
+
+regroup : (front es : List Entry) (read : Result (List Entry × Numbers) ℕ)
+    → with_front front (read >>= λ x. Ok (es ++ x.0, x.1)) ≡ with_front (front ++ es) read
+regroup front es (Ok x) = ap (λ (l : List Entry). Ok (l, x.1)) (sym (append_assoc front es x.0))
+regroup front es (Err f) = refl
+
+-- the batches from the one at i on
+pub rest_is : (batches : List Payload) (i : ℕ) (batch : Payload) → i < length batches → batch ≡ get_or batches i batch
+    → drop i batches ≡ batch ∷ drop (i + 1) batches
+rest_is batches i batch lt is = drop_more batches i batch lt ∙ ap (λ (b : Payload). b ∷ drop (i + 1) batches) (sym is)
+
+pub goes_on : (most : ℕ) (front : List Entry) (state : Numbers) (gate : ℕ) (batches : List Payload) (i : ℕ) (batch : Payload) (es : List Entry) (next : Numbers) (total : Result (List Entry × Numbers) ℕ)
+    → i < length batches → batch ≡ get_or batches i batch
+    → before (gate + need_of batch.bytes.items) (payload_of numbering most state batch.bytes.items) ≡ Ok (es, next)
+    → with_front front (batches_of most state gate (payloads_of (drop i batches))) ≡ total
+    → with_front (front ++ es) (batches_of most next (gate + need_of batch.bytes.items) (payloads_of (drop (i + 1) batches))) ≡ total
+unfolding batches_of
+goes_on most front state gate batches i batch es next total lt is h so_far =
+    let one : with_front front (batches_of most state gate (payloads_of (drop i batches)))
+    ≡ with_front (front ++ es) (batches_of most next (gate + need_of batch.bytes.items) (payloads_of (drop (i + 1) batches))) =
+    ap (λ (bs : List Payload). with_front front (batches_of most state gate (payloads_of bs))) (rest_is batches i batch lt is)
+    ∙ rw h (regroup front es (batches_of most next (gate + need_of batch.bytes.items) (payloads_of (drop (i + 1) batches)))) in
+    sym one ∙ so_far
+
+pub stops : (fault : SegmentFault) (most : ℕ) (front : List Entry) (state : Numbers) (gate : ℕ) (batches : List Payload) (i : ℕ) (batch : Payload) (total : Result (List Entry × Numbers) ℕ)
+    → i < length batches → batch ≡ get_or batches i batch
+    → Refuses fault (before (gate + need_of batch.bytes.items) (payload_of numbering most state batch.bytes.items))
+    → with_front front (batches_of most state gate (payloads_of (drop i batches))) ≡ total → Refuses fault total
+unfolding batches_of
+stops NoMemory most front state gate batches i batch total lt is h so_far = tt
+stops Device most front state gate batches i batch total lt is h so_far = h
+stops (Damaged place) most front state gate batches i batch total lt is h so_far =
+    let one : with_front front (batches_of most state gate (payloads_of (drop i batches))) ≡ Err place =
+    ap (λ (bs : List Payload). with_front front (batches_of most state gate (payloads_of bs))) (rest_is batches i batch lt is)
+    ∙ rw h refl in
+    sym so_far ∙ one
+
+pub is_done : (most : ℕ) (front : List Entry) (state : Numbers) (gate : ℕ) (batches : List Payload) (i : ℕ) (total : Result (List Entry × Numbers) ℕ)
+    → length batches ≤ i → with_front front (batches_of most state gate (payloads_of (drop i batches))) ≡ total → total ≡ Ok (front, state)
+unfolding batches_of
+is_done most front state gate batches i total le so_far =
+    let one : with_front front (batches_of most state gate (payloads_of (drop i batches))) ≡ Ok (front, state) =
+    ap (λ (bs : List Payload). with_front front (batches_of most state gate (payloads_of bs))) (drop_all i batches le)
+    ∙ ap (λ (es : List Entry). Ok (es, state)) (append-nil front) in
+    sym so_far ∙ one
+
+-- what the batches from one on take
+pub tail_goes_on : (batches : List Payload) (i : ℕ) (batch : Payload) → i < length batches → batch ≡ get_or batches i batch
+    → sum_by need_of (payloads_of (drop i batches)) ≡ need_of batch.bytes.items + sum_by need_of (payloads_of (drop (i + 1) batches))
+tail_goes_on batches i batch lt is =
+    ap (λ (bs : List Payload). sum_by need_of (payloads_of bs)) (rest_is batches i batch lt is)
+    ∙ sum_by-cons need_of batch.bytes.items (payloads_of (drop (i + 1) batches))

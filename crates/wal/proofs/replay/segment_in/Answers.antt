@@ -1,0 +1,25 @@
+use Rattle.std.proofs.Common.{◌∙◌, ℕ, List, ap, sym, subst, arith}
+use Rattle.gate_log.specs.Reading.{payloads_of, Ends}
+use Rattle.gate_log.specs.declared.found.Payload.{Payload}
+use Rattle.gate_log.specs.declared.front.End.{End}
+use Rattle.gate_log.specs.declared.front.End.TheVariants.{Closed}
+use Rattle.hse_fields.specs.LogReading.{◌>>=◌}
+use Rattle.wal.specs.Expected.{numbers_as}
+use Rattle.wal.specs.Numbering.{Numbers}
+use Rattle.wal.specs.Replaying.{batches_of, ended}
+use Rattle.wal.proofs.replay.segment_in.Goals as goal
+
+pub returns-clause-read : goal.returns-clause-read
+returns-clause-read c = λ region ends.
+    let items = c.args.front.batches.items in
+    let start : ℕ → Numbers = λ (room : ℕ). record { next = c.args.next; taken = c.args.taken.now; room = room } in
+    let read = ap (λ (room : ℕ). batches_of c.args.most (start room) 9 (payloads_of items)) (sym c.saturating_sub-room.ensures)
+    ∙ ap (λ (batches : List Payload). batches_of c.args.most (start c.saturating_sub-room.result) 9 (payloads_of batches)) (sym c.deref.ensures.value)
+    ∙ c.in_ok-commits.ensures.gives in
+    record {
+      payloads = payloads_of items;
+      ends = subst (λ (end : End). Ends region c.args.front.sequence (payloads_of items) end) c.in-Closed.is ends;
+      last = numbers_as c.in_ok-commits.last;
+      read = ap (λ r. r >>= ended (Closed c.in-Closed.tail)) read;
+      charges = omega (arith, c.in_ok-commits.ensures.charged);
+    }

@@ -1,0 +1,108 @@
+//! Reads one change.
+ghost use Rattle.std.specs.Prelude.{◌≡◌, ◌≤◌, ℕ, [], length, IfOk};
+ghost use Rattle.hse_fields.specs.LogForm.{longest_name, ValueFits};
+ghost use Rattle.hse_fields.specs.LogReading.{change, kind_of, change_of};
+ghost use Rattle.hse_rows.specs.Lengths.{IsKeyLength, IsPrefixLength};
+ghost use Rattle.wal.specs.Given.{Gives, kind_as};
+ghost use Rattle.wal.specs.Logged.{last_of, logged, logged_change};
+
+use crate::field::{byte_at, name_at, u64_at, value_at};
+use crate::kind::{Kind, kind_of_byte};
+use crate::order::{may_kind_follow, may_name_follow, may_store_follow};
+use crate::refusal::Refusal;
+use hse_io::NoMemory;
+use hse_rows::{Change, Key, KeyFault, Prefix, PrefixFault, StoreId, Value, ValueFault, Write};
+use std::alloc::Global;
+
+/// The kind of a change behind the last one.
+#[tactic(auto, unfolding(hse_fields::specs::LogReading::kind_of))]
+fn kind_at<'a>(last: Option<&Write>, bytes: &'a [u8]) -> Result<(Kind, &'a [u8]), Refusal>
+    ensures { Gives (λ x. (kind_as x.0, x.1.now)) result
+        (kind_of (last_of last.entry) bytes.now) }
+{
+    let (byte, rest) = byte_at(bytes)?;
+    let Some(kind) = kind_of_byte(byte) else {
+        return Err(Refusal::Left(bytes.len() as u64));
+    };
+    if !may_kind_follow(last, kind) {
+        return Err(Refusal::Left(bytes.len() as u64));
+    }
+    Ok((kind, rest))
+}
+
+fn key_of(alloc: Global, name: &[u8]) -> Result<Key, NoMemory>
+    requires { IsKeyLength (length name.now) }
+    ensures { IfOk result (λ key. key ≡ name.now) }
+{
+    match Key::new(alloc, name) {
+        Ok(key) => Ok(key),
+        Err(KeyFault::Length(_)) => unreachable!(),
+        Err(KeyFault::NoMemory) => Err(NoMemory),
+    }
+}
+
+fn prefix_of(alloc: Global, name: &[u8]) -> Result<Prefix, NoMemory>
+    requires { IsPrefixLength (length name.now) }
+    ensures { IfOk result (λ prefix. prefix ≡ name.now) }
+{
+    match Prefix::new(alloc, name, name.len() as u8) {
+        Ok(prefix) => Ok(prefix),
+        Err(PrefixFault::Length(_)) => unreachable!(),
+        Err(PrefixFault::NoMemory) => Err(NoMemory),
+    }
+}
+
+fn value_of(alloc: Global, bytes: &[u8]) -> Result<Value, NoMemory>
+    ensures { IfOk result (λ value. value ≡ bytes.now) }
+{
+    match Value::new(alloc, bytes, bytes.len() as u64) {
+        Ok(value) => Ok(value),
+        Err(ValueFault::Length(_)) => unreachable!(),
+        Err(ValueFault::NoMemory) => Err(NoMemory),
+    }
+}
+
+/// The change of this kind; a change that is no put has no value.
+fn made(alloc: Global, kind: Kind, name: &[u8], value: &[u8]) -> Result<Change, NoMemory>
+    requires some { 1 ≤ length name.now }
+    requires short { length name.now ≤ longest_name (kind_as kind) }
+    requires none { ValueFits (length value.now) (kind_as kind) value.now }
+    ensures { IfOk result (λ c. (store : ℕ)
+        → logged_change store c ≡ change (kind_as kind) store name.now value.now) }
+{
+    match kind {
+        Kind::Put => {
+            let key = key_of(alloc, name)?;
+            let value = value_of(alloc, value)?;
+            Ok(Change::Put(key, value))
+        }
+        Kind::Del => Ok(Change::Del(key_of(alloc, name)?)),
+        Kind::PDel => Ok(Change::PDel(prefix_of(alloc, name)?)),
+    }
+}
+
+/// A change behind the last one of its commit, its value of at most so many bytes.
+#[tactic(auto, unfolding(hse_fields::specs::LogReading::change_of))]
+pub(crate) fn change_at<'a>(
+    alloc: Global,
+    most: u64,
+    last: Option<&Write>,
+    bytes: &'a [u8],
+) -> Result<(Write, &'a [u8]), Refusal>
+    ensures { Gives (λ x. (logged x.0, x.1.now)) result
+        (change_of most (last_of last.entry) bytes.now) }
+{
+    let (kind, rest) = kind_at(last, bytes)?;
+    let (store, rest) = u64_at(rest)?;
+    if !may_store_follow(last, kind, store) {
+        return Err(Refusal::Left(bytes.len() as u64));
+    }
+    let (name, rest) = name_at(kind, rest)?;
+    if !may_name_follow(last, kind, store, name) {
+        return Err(Refusal::Left(bytes.len() as u64));
+    }
+    let (value, rest) = value_at(kind, most, rest)?;
+    let change = made(alloc, kind, name, value)?;
+    let store = StoreId(store);
+    Ok((Write { store, change }, rest))
+}

@@ -1,0 +1,27 @@
+//! The log of commits: a batch of commits as bytes, and the commits that a segment holds.
+#![tactic(auto)]
+
+mod batches;
+mod change;
+mod changes;
+mod commit;
+mod encode;
+mod entry;
+mod expected;
+mod field;
+mod kind;
+mod laws;
+mod order;
+mod payload;
+mod refusal;
+mod replay;
+mod segment;
+
+pub use commit::Commit;
+pub use encode::encode_batch;
+pub use laws::{charge_is_length, one_replay};
+pub use replay::replay_segment;
+pub use segment::{Segment, SegmentFault};
+
+#[cfg(test)]
+mod tests;

@@ -1,0 +1,57 @@
+//! Why bytes were not read.
+
+use hse_fields::Short;
+use hse_io::NoMemory;
+use std::alloc::{AllocError, AllocFailed};
+
+/// Why bytes were not read.
+#[derive(Clone, Copy)]
+pub(crate) enum Refusal {
+    /// So many bytes stand from the first refused field on, to the end of the batch.
+    Left(u64),
+    NoMemory,
+}
+
+impl From<Short> for Refusal {
+    ghost use Rattle.std.specs.Prelude.{◌≡◌};
+    ghost use Rattle.wal.specs.declared.refusal.Refusal.TheVariants.{Left};
+
+    ghost from_gives = { λ short refusal. refusal ≡ Left short.have };
+
+    fn from(short: Short) -> Self {
+        Refusal::Left(short.have)
+    }
+}
+
+impl From<NoMemory> for Refusal {
+    ghost use Rattle.std.specs.Prelude.{◌≡◌};
+    ghost use Rattle.wal.specs.declared.refusal.Refusal.TheVariants.{NoMemory as OutOfMemory};
+
+    ghost from_gives = { λ _ refusal. refusal ≡ OutOfMemory };
+
+    fn from(_: NoMemory) -> Self {
+        Refusal::NoMemory
+    }
+}
+
+impl From<AllocError> for Refusal {
+    ghost use Rattle.std.specs.Prelude.{◌≡◌};
+    ghost use Rattle.wal.specs.declared.refusal.Refusal.TheVariants.{NoMemory as OutOfMemory};
+
+    ghost from_gives = { λ _ refusal. refusal ≡ OutOfMemory };
+
+    fn from(_: AllocError) -> Self {
+        Refusal::NoMemory
+    }
+}
+
+impl<T: Drop> From<AllocFailed<T>> for Refusal {
+    ghost use Rattle.std.specs.Prelude.{◌≡◌};
+    ghost use Rattle.wal.specs.declared.refusal.Refusal.TheVariants.{NoMemory as OutOfMemory};
+
+    ghost from_gives = { λ _ refusal. refusal ≡ OutOfMemory };
+
+    fn from(_: AllocFailed<T>) -> Self {
+        Refusal::NoMemory
+    }
+}

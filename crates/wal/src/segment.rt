@@ -1,0 +1,52 @@
+//! What a segment of the log holds.
+
+use crate::Commit;
+use gate_log::{FrontFault, Tail};
+use std::alloc::AllocError;
+use thiserror::Error;
+
+/// What a segment holds: its sequence, its commits in the order of their numbers, what they take of
+/// its room in bytes, and the place of the closed gate behind its batches.
+#[derive(Drop)]
+pub struct Segment {
+    pub sequence: u64,
+    pub commits: Vec<Commit>,
+    pub charges: u64,
+    pub tail: Tail,
+}
+
+/// Why a segment was not read.
+#[derive(Clone, Copy, Debug, PartialEq, Eq, Error)]
+pub enum SegmentFault {
+    /// At this place in the segment's region, in bytes, stands the first field that is refused.
+    #[error("the segment is damaged at byte {0}")]
+    Damaged(u64),
+    #[error("the device failed")]
+    Device,
+    #[error("out of memory")]
+    NoMemory,
+}
+
+impl From<AllocError> for SegmentFault {
+    ghost use Rattle.std.specs.Prelude.{◌≡◌};
+    ghost use Rattle.wal.specs.declared.segment.SegmentFault.TheVariants.{NoMemory};
+
+    ghost from_gives = { λ _ fault. fault ≡ NoMemory };
+
+    fn from(_: AllocError) -> Self {
+        SegmentFault::NoMemory
+    }
+}
+
+impl From<FrontFault> for SegmentFault {
+    ghost use Rattle.wal.specs.Replaying.{IsSameFault};
+
+    ghost from_gives = { λ front fault. IsSameFault front fault };
+
+    fn from(fault: FrontFault) -> Self {
+        match fault {
+            FrontFault::Device => SegmentFault::Device,
+            FrontFault::NoMemory => SegmentFault::NoMemory,
+        }
+    }
+}
