@@ -1,0 +1,16 @@
+-- The first words of lines.
+use Rattle.std.specs.Prelude.{ℕ, List, codes}
+use Rattle.shell_text.specs.declared.verb.Verb.{Verb}
+use Rattle.shell_text.specs.declared.verb.Verb.TheVariants as verb
+
+-- the first word that says this
+abbrev pub verb_word : Verb → List ℕ
+verb_word verb.CreateStore = codes "create-store"
+verb_word verb.DropStore = codes "drop-store"
+verb_word verb.Stores = codes "stores"
+verb_word verb.Put = codes "put"
+verb_word verb.Del = codes "del"
+verb_word verb.Get = codes "get"
+verb_word verb.Sync = codes "sync"
+verb_word verb.Info = codes "info"
+verb_word verb.Reopen = codes "reopen"
