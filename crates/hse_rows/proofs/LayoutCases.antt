@@ -13,8 +13,8 @@ use Rattle.hse_rows.specs.Newest.{newest, merged}
 use Rattle.hse_rows.specs.Routing.{child_of}
 use Rattle.hse_rows.specs.Layout.{Layout, sets_at, ingested, compacted, spilled, is_last}
 
-abbrev row : ℕ → Change → Row
-row number change = record { number = number; change = change }
+abbrev numbered : ℕ → Change → Row
+numbered number change = record { number = number; change = change }
 
 abbrev write : ℕ → Change → Write
 write id change = write_of (record { 0 = id }) change
@@ -22,21 +22,21 @@ write id change = write_of (record { 0 = id }) change
 -- ---- newest rows
 
 the_greatest_number_is_kept :
-    newest (row 3 (Put (codes "a") (codes "new")) ∷ row 2 (Put (codes "a") (codes "old")) ∷ []) ≡ row 3 (Put (codes "a") (codes "new")) ∷ []
+    newest (numbered 3 (Put (codes "a") (codes "new")) ∷ numbered 2 (Put (codes "a") (codes "old")) ∷ []) ≡ numbered 3 (Put (codes "a") (codes "new")) ∷ []
 unfolding newest
 the_greatest_number_is_kept = refl
 
 a_prefix_delete_covers_smaller_numbers_only :
-    newest (row 2 (Put (codes "ab1") (codes "1")) ∷ row 3 (PDel (codes "ab")) ∷ row 3 (Put (codes "ab2") (codes "2")) ∷ [])
-    ≡ row 3 (PDel (codes "ab")) ∷ row 3 (Put (codes "ab2") (codes "2")) ∷ []
+    newest (numbered 2 (Put (codes "ab1") (codes "1")) ∷ numbered 3 (PDel (codes "ab")) ∷ numbered 3 (Put (codes "ab2") (codes "2")) ∷ [])
+    ≡ numbered 3 (PDel (codes "ab")) ∷ numbered 3 (Put (codes "ab2") (codes "2")) ∷ []
 unfolding newest
 a_prefix_delete_covers_smaller_numbers_only = refl
 
-a_deletion_is_a_row : newest (row 2 (Put (codes "a") (codes "1")) ∷ row 3 (Del (codes "a")) ∷ []) ≡ row 3 (Del (codes "a")) ∷ []
+a_deletion_is_a_row : newest (numbered 2 (Put (codes "a") (codes "1")) ∷ numbered 3 (Del (codes "a")) ∷ []) ≡ numbered 3 (Del (codes "a")) ∷ []
 unfolding newest
 a_deletion_is_a_row = refl
 
-the_last_merge_leaves_deletions_out : merged true (row 2 (Put (codes "a") (codes "1")) ∷ row 3 (Del (codes "a")) ∷ []) ≡ []
+the_last_merge_leaves_deletions_out : merged true (numbered 2 (Put (codes "a") (codes "1")) ∷ numbered 3 (Del (codes "a")) ∷ []) ≡ []
 unfolding newest
 the_last_merge_leaves_deletions_out = refl
 
@@ -66,7 +66,7 @@ after_ingest = ingested 65536 [] (new_store 1 (codes "s") Plain 2 ∷ []) layer
 an_ingest_makes_one_set_of_three_blocks :
     sets_at after_ingest 1 []
     ≡ record {
-      rows = row 2 (PDel (codes "ab")) ∷ row 2 (Put (codes "ab2") (codes "2")) ∷ [];
+      rows = numbered 2 (PDel (codes "ab")) ∷ numbered 2 (Put (codes "ab2") (codes "2")) ∷ [];
       prefix_blocks = 1;
       key_blocks = 1;
       value_blocks = 1;
@@ -80,7 +80,7 @@ a_root_without_children_is_last = refl
 
 a_compaction_of_the_last_leaves_the_prefix_delete_out :
     sets_at (compacted 65536 after_ingest 1 [] 0 1 true) 1 []
-    ≡ record { rows = row 2 (Put (codes "ab2") (codes "2")) ∷ []; prefix_blocks = 0; key_blocks = 1; value_blocks = 1 } ∷ []
+    ≡ record { rows = numbered 2 (Put (codes "ab2") (codes "2")) ∷ []; prefix_blocks = 0; key_blocks = 1; value_blocks = 1 } ∷ []
 unfolding newest
 a_compaction_of_the_last_leaves_the_prefix_delete_out = refl
 
@@ -104,7 +104,7 @@ abbrev before_two : Layout
 before_two = spilled 65536 (ingested 65536 after_spill (new_store 1 (codes "s") Plain 2 ∷ []) (record { number = 3; writes = write 1 (Del (codes "ab2")) ∷ [] } ∷ [])) 1 [] 1 1
 
 a_spill_stands_in_front : sets_at before_two 1 (1 ∷ [])
-    ≡ record { rows = row 3 (Del (codes "ab2")) ∷ []; prefix_blocks = 0; key_blocks = 1; value_blocks = 0 } ∷ sets_at after_ingest 1 []
+    ≡ record { rows = numbered 3 (Del (codes "ab2")) ∷ []; prefix_blocks = 0; key_blocks = 1; value_blocks = 0 } ∷ sets_at after_ingest 1 []
 unfolding newest
 a_spill_stands_in_front = refl
 

@@ -72,4 +72,4 @@ replaced set write = placed write_cmp (filter (λ w. not (eq_by_cmp write_cmp wr
 -- new is old with one more write behind all writes of which old is the normal form
 pub record Continues (old : List Write) (more : Write) (new : List Write) : Type 0 where
   pub all :
-    (writes : List Write) → old ≡ normal_form writes → new ≡ normal_form (writes ++ more ∷ [])
+      (writes : List Write) → old ≡ normal_form writes → new ≡ normal_form (writes ++ more ∷ [])
