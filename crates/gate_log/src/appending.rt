@@ -64,6 +64,7 @@ pub fn append<D: Disk>(
     ensures device { IsErrOf result AppendFault.Device
         → Rose (D.faults disk.old) (D.faults disk.new) }
     ensures later { D.faults disk.old ≤ D.faults disk.new }
+    ensures quiet { OnOk result (D.faults disk.new ≡ D.faults disk.old) }
     ensures extent { D.extent disk.new ≡ D.extent disk.old }
     ensures clock { D.moment disk.old ≤ D.moment disk.new }
 
