@@ -1,5 +1,5 @@
 //! The program's words, and what they ask for.
-ghost use Rattle.std.specs.Prelude.{◌≡◌, ◌↔◌, ◌⊎◌, [], map, codes, IsTrue};
+ghost use Rattle.std.specs.Prelude.{◌≡◌, ◌↔◌, ◌⊎◌, ◌<◌, [], map, codes, IsTrue};
 ghost use Rattle.std.specs.String.{string_bytes};
 ghost use Rattle.hse_io.specs.Faults.{Rose};
 ghost use Rattle.hse_shell.specs.Ending.{status_text, AppendsOrFails};
@@ -73,6 +73,7 @@ pub fn top<S: Source, K: Sink, D: Disk>(
     ensures read { result.status ≡ Status.ReadFault → Rose (S.faults source.old) (S.faults source.new) }
     ensures write { result.status ≡ Status.WriteFault → Rose (K.faults sink.old) (K.faults sink.new) }
     ensures device { result.status ≡ Status.DeviceFault → Rose (D.faults disk.old) (D.faults disk.new) }
+    ensures at_once { D.faults disk.old < D.faults disk.new → result.status ≡ Status.DeviceFault }
     ensures complete { AsksRun (map string_bytes words.now)
         → D.tells → D.seen disk.old ≡ [] → IsGoodInput (S.remaining source.old)
         → ¬ Rose (S.faults source.old) (S.faults source.new) → ¬ Rose (K.faults sink.old) (K.faults sink.new)

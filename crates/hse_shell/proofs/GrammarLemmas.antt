@@ -133,3 +133,7 @@ no_put_unspaced line rest key value front left is =
 -- what stands behind the front of a line with a key is a word
 pub key_word : (front line rest key : List ℕ) → line ≡ front ++ rest → IsKeyed front line key → IsWord rest
 key_word front line rest key parts is = subst IsWord (append_cancel_left front key rest (sym is.spelled ∙ parts)) is.key_word
+
+-- a line with another meaning is not silent
+pub not_silent : (line : List ℕ) (meaning : Meaning) → (meaning ≡ silent → ⊥) → Means line meaning → IsSilent line → ⊥
+not_silent line meaning other means is = other (one_meaning line meaning silent means is)

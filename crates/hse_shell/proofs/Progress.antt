@@ -14,4 +14,4 @@ pub record Progress {S K D : Type 0} (s : source.Ghosts S) (k : sink.Ghosts K) (
   pub extent : d.extent end ≡ d.extent begin
   pub read : s.faults from ≤ s.faults now
   pub wrote : k.faults first ≤ k.faults last
-  pub failed : d.faults begin ≤ d.faults end
+  pub failed : d.faults end ≡ d.faults begin

@@ -17,7 +17,6 @@ use Rattle.hse_shell.specs.Machine.{Machine, Step, opening, led_to, base_number}
 use Rattle.hse_shell.specs.Logged.{Serves}
 use Rattle.hse_shell.specs.Runs.{Run, replies}
 use Rattle.hse_shell.specs.Turns.{Replied}
-use Rattle.hse_shell.specs.Ending.{AppendsFront}
 use Rattle.hse_shell.specs.SoFar.{Start, Took, Ran, SoFar, IsShort, script_length}
 use Rattle.hse_shell.specs.declared.engine.Engine.{Engine}
 
@@ -47,17 +46,6 @@ Appends-none (Some b) = sym (append-nil b)
 pub Appends-then_none : (before between after : Option (List ℕ)) (first : List ℕ) → Appends before between first → Appends between after [] → Appends before after first
 Appends-then_none before between after first one two =
     subst (Appends before after) (append-nil first) (Appends-both before between after first [] one two)
-
--- all of a text, and a front of what follows it
-pub AppendsFront-behind : (before between after : Option (List ℕ)) (first more rest : List ℕ) → Appends before between first → AppendsFront between after more
-    → AppendsFront before after (first ++ (more ++ rest))
-AppendsFront-behind before between after first more rest one two = record {
-  front = first ++ two.front;
-  rest = two.rest ++ rest;
-  parts = ap (λ (l : List ℕ). first ++ (l ++ rest)) two.parts ∙ ap (λ (l : List ℕ). first ++ l) (append_assoc two.front two.rest rest)
-      ∙ sym (append_assoc first two.front (two.rest ++ rest));
-  appended = Appends-both before between after first two.front one two.appended;
-}
 
 -- a line was taken of what was left
 pub took_line : (input left now : Option (List ℕ)) (lines : List (List ℕ)) (line : List ℕ)

@@ -1,5 +1,5 @@
 -- How a run stops, from what it did so far.
-use Rattle.std.proofs.Common.{◌≡◌, ◌⊎◌, inl, inr, ℕ, ◌+◌, ◌<◌, ◌≤◌, ◌^◌, List, [], ◌++◌, length, Option, Some, None, refl, sym, ap, subst, ◌∙◌, append_assoc, IfSome, arith}
+use Rattle.std.proofs.Common.{◌≡◌, ◌⊎◌, inl, inr, ℕ, ◌+◌, ◌<◌, ◌≤◌, ◌^◌, List, [], ◌++◌, length, Option, Some, None, refl, sym, ap, subst, ◌∙◌, IfSome, arith}
 use Rattle.std.specs.Prelude.{Ok, Err}
 use Rattle.std.specs.Io.KnownBytes.{Appends}
 use Rattle.std.proofs.lemmas.List.{append-nil}
@@ -10,15 +10,14 @@ use Rattle.hse_io.specs.declared.outcome.Status.TheVariants as status
 use Rattle.hse_io.specs.Lines.{lines_of}
 use Rattle.hse_io.specs.Takes.{Takes}
 use Rattle.media_disk.specs.declared.disk.Disk.{Ghosts}
-use Rattle.hse_shell.specs.Ending.{AppendsFront}
-use Rattle.hse_shell.specs.Ends.{Answered, MeetsLongLine, MeetsLimit, BreaksOff, in_opening, in_line, in_closing, WroteFront, Greets, Stops, EndsServed, IsNotEmpty, EndsTold}
+use Rattle.hse_shell.specs.Ends.{Answered, MeetsLongLine, MeetsLimit, BreaksOff, in_opening, in_line, in_closing, IsSpoken, IsAny, WroteFront, of_opening, of_reply, of_closing, Greets, Stops, EndsServed, IsNotEmpty, EndsTold}
 use Rattle.hse_shell.specs.Machine.{base_number, number_of}
-use Rattle.hse_shell.specs.Replies.{answer_line, opened_text, closed_text}
+use Rattle.hse_shell.specs.Replies.{answer_line, closed_text}
 use Rattle.hse_shell.specs.Runs.{replies}
-use Rattle.hse_shell.specs.SoFar.{Start, Took, Ran, SoFar, IsShort}
+use Rattle.hse_shell.specs.SoFar.{Start, Took, SoFar, IsShort}
 use Rattle.hse_shell.specs.Turns.{Unreplied, Replied, RepliedInPart, Closes}
 use Rattle.hse_shell.specs.declared.engine.Engine.{Engine}
-use Rattle.hse_shell.proofs.RunLemmas.{Appends-both, Appends-then_none, AppendsFront-behind, took_line, replies-push, script_length-push, ran_more, ran_none}
+use Rattle.hse_shell.proofs.RunLemmas.{Appends-both, Appends-none, Appends-then_none, took_line, replies-push, script_length-push, ran_more}
 
 module _ {D : Type 0} (g : Ghosts D) (start : Start D) (left between : Option (List ℕ)) (disk : D) (engine : Engine) (taken : ℕ)
     (within : taken < 2 ^ 40) (s : SoFar g start left between disk engine taken) where
@@ -37,36 +36,35 @@ module _ {D : Type 0} (g : Ghosts D) (start : Start D) (left between : Option (L
   meets_long_line line now takes = record { rest = left; answered = answered; long = takes }
 
   -- a front of the reply to a line was written
-  wrote_front : (line : List ℕ) (now after : Option (List ℕ)) → IfSome left (λ all. Takes all (Ok Text) line now) → IsShort line
+  wrote_front : (line : List ℕ) (now after : Option (List ℕ)) → IfSome left (λ all. Takes all (Ok Text) line now)
       → RepliedInPart s.ran.state line between after → WroteFront g start now after
-  wrote_front line now after takes short r =
-      let ran : Ran g start now = ran_more g start left now line s.ran takes short r.meaning r.answer r.means r.step in
-      record {
-        ran = ran;
-        front = subst (AppendsFront start.held after)
-            (sym (append_assoc (replies s.ran.answers) (answer_line r.answer) (closed_text (number_of ran.state)))
-            ∙ ap (λ (l : List ℕ). l ++ closed_text (number_of ran.state)) (sym (replies-push s.ran.answers r.answer)))
-            (AppendsFront-behind start.held between after (replies s.ran.answers) (answer_line r.answer) (closed_text (number_of ran.state)) s.wrote r.front);
-      }
+  wrote_front line now after takes reply = of_reply (record {
+    rest = left;
+    between = between;
+    answered = answered_still between (Appends-none between);
+    line = line;
+    took = took_line start.input left now s.ran.lines line s.ran.took takes;
+    reply = reply;
+  })
 
   -- a line has no reply
   pub stops_unreplied : (ended : Status) (line : List ℕ) (now after : Option (List ℕ)) → IfSome left (λ all. Takes all (Ok Text) line now) → IsShort line
       → Unreplied ended s.ran.state line between after → Stops g ended start now after
-  stops_unreplied status.DeviceFault line now after takes short (asks, none) = in_line (record {
+  stops_unreplied status.DeviceFault line now after takes short (asks, waits, none) = in_line (record {
     rest = left;
     answered = answered_still after none;
     line = line;
     took = took_line start.input left now s.ran.lines line s.ran.took takes;
-    fits = asks;
+    fits = (asks, waits);
   })
-  stops_unreplied status.NoMemory line now after takes short none = in_line (record {
+  stops_unreplied status.NoMemory line now after takes short (speaks, none) = in_line (record {
     rest = left;
     answered = answered_still after none;
     line = line;
     took = took_line start.input left now s.ran.lines line s.ran.took takes;
-    fits = tt;
+    fits = speaks;
   })
-  stops_unreplied status.WriteFault line now after takes short r = wrote_front line now after takes short r
+  stops_unreplied status.WriteFault line now after takes short r = wrote_front line now after takes r
   stops_unreplied status.Done line now after takes short never = absurd never
   stops_unreplied status.Usage line now after takes short never = absurd never
   stops_unreplied status.ReadFault line now after takes short never = absurd never
@@ -91,14 +89,6 @@ module _ {D : Type 0} (g : Ghosts D) (start : Start D) (left between : Option (L
     reached = omega (arith, s.counted, script_length-push s.ran.lines line);
   }
 
-  -- a front of the last line of the run was written
-  closed_front : (after : Option (List ℕ)) → AppendsFront between after (closed_text (number_of s.ran.state)) → WroteFront g start left after
-  closed_front after f = record {
-    ran = s.ran;
-    front = subst (AppendsFront start.held after) (ap (λ (l : List ℕ). replies s.ran.answers ++ l) (append-nil (closed_text (number_of s.ran.state))))
-        (AppendsFront-behind start.held between after (replies s.ran.answers) (closed_text (number_of s.ran.state)) [] s.wrote f);
-  }
-
   took_all : (input : Option (List ℕ)) (lines : List (List ℕ)) → Took input lines left → IfSome input (λ all. left ≡ Some [])
       → IfSome input (λ all. (lines ≡ lines_of all) × (left ≡ Some []))
   took_all None lines took end = tt
@@ -117,9 +107,14 @@ module _ {D : Type 0} (g : Ghosts D) (start : Start D) (left between : Option (L
     stores = closed.stores;
     durable = closed.durable;
   }
-  ends_closed status.WriteFault after last end front = closed_front after front
-  ends_closed status.DeviceFault after last end none = in_closing (answered_still after none) end
-  ends_closed status.NoMemory after last end none = in_closing (answered_still after none) end
+  ends_closed status.WriteFault after last end front = of_closing (record {
+    between = between;
+    answered = answered_still between (Appends-none between);
+    ended = end;
+    front = front;
+  })
+  ends_closed status.DeviceFault after last end (waits, none) = in_closing (record { answered = answered_still after none; ended = end; fits = waits })
+  ends_closed status.NoMemory after last end none = in_closing (record { answered = answered_still after none; ended = end; fits = tt })
   ends_closed status.Usage after last end never = absurd never
   ends_closed status.ReadFault after last end never = absurd never
   ends_closed status.NotFormed after last end never = absurd never
@@ -147,17 +142,8 @@ ends_stopped g status.Refused start left after disk never = absurd never
 -- A run whose first line was not written whole.
 pub stops_greeting : {D : Type 0} (g : Ghosts D) (ended : Status) (start : Start D) (after : Option (List ℕ)) → (g.tells → g.seen start.device ≡ [])
     → Greets ended base_number start.held after → Stops g ended start start.input after
-stops_greeting g status.WriteFault start after empty front = record {
-  ran = ran_none g start empty;
-  front = record {
-    front = front.front;
-    rest = front.rest ++ closed_text base_number;
-    parts = ap (λ (l : List ℕ). l ++ closed_text base_number) (append-nil (opened_text base_number) ∙ front.parts)
-        ∙ append_assoc front.front front.rest (closed_text base_number);
-    appended = front.appended;
-  };
-}
-stops_greeting g status.NoMemory start after empty none = in_opening none
+stops_greeting g status.WriteFault start after empty front = of_opening (record { unread = refl; empty = empty; front = front })
+stops_greeting g status.NoMemory start after empty none = in_opening refl none
 stops_greeting g status.Done start after empty never = absurd never
 stops_greeting g status.Usage start after empty never = absurd never
 stops_greeting g status.ReadFault start after empty never = absurd never
@@ -171,12 +157,12 @@ stops_greeting g status.Refused start after empty never = absurd never
 
 -- A device that held something was told of, or there was no memory for the line.
 pub ends_refused : {D : Type 0} (g : Ghosts D) (ended : Status) (start : Start D) (left after : Option (List ℕ)) (faults now : ℕ) (disk : D)
-    → (ended ≡ status.NotEmpty) ⊎ (ended ≡ status.NoMemory) → (ended ≡ status.NotEmpty → IsNotEmpty g start after faults now disk)
+    → (ended ≡ status.NotEmpty) ⊎ (ended ≡ status.NoMemory) → left ≡ start.input → (ended ≡ status.NotEmpty → IsNotEmpty g start left after faults now disk)
     → (ended ≡ status.NoMemory → Appends start.held after []) → EndsTold g ended start left after faults now disk
-ends_refused g ended start left after faults now disk (inl is) full none =
+ends_refused g ended start left after faults now disk (inl is) unread full none =
     subst (λ (s : Status). EndsTold g s start left after faults now disk) (sym is) (full is)
-ends_refused g ended start left after faults now disk (inr is) full none =
-    let stops : BreaksOff g (λ line. Unit {0}) start left after = in_opening (none is) in
+ends_refused g ended start left after faults now disk (inr is) unread full none =
+    let stops : BreaksOff g IsSpoken IsAny start left after = in_opening unread (none is) in
     subst (λ (s : Status). EndsTold g s start left after faults now disk) (sym is) stops
 
 -- Who ends once the store is open ends the run.

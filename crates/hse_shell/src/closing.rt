@@ -1,5 +1,5 @@
 //! The end of a script.
-ghost use Rattle.std.specs.Prelude.{◌≡◌, ◌≤◌};
+ghost use Rattle.std.specs.Prelude.{◌≡◌, ◌<◌, ◌≤◌};
 ghost use Rattle.hse_io.specs.Faults.{Rose};
 ghost use Rattle.hse_shell.specs.Machine.{Machine};
 ghost use Rattle.hse_shell.specs.Logged.{Serves};
@@ -27,6 +27,7 @@ pub(crate) fn close<K: Sink, D: Disk>(
     ensures read { result ≡ Status.ReadFault → ⊥ }
     ensures write { result ≡ Status.WriteFault → Rose (K.faults sink.old) (K.faults sink.new) }
     ensures device { result ≡ Status.DeviceFault → Rose (D.faults disk.old) (D.faults disk.new) }
+    ensures at_once { D.faults disk.old < D.faults disk.new → result ≡ Status.DeviceFault }
     ensures later { (K.faults sink.old ≤ K.faults sink.new) × (D.faults disk.old ≤ D.faults disk.new) }
 {
     match engine.flush(alloc, disk) {

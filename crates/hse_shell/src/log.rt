@@ -44,7 +44,7 @@ fn push_reserved(marks: &mut Vec<Mark>, mark: Mark)
 }
 
 impl Engine {
-    ghost use Rattle.std.specs.Prelude.{◌≡◌, ◌<◌, ◌≤◌, ◌++◌, ◌∷◌, [], ℕ, length, Ok, IfOk, OnOk, IsErrOf, vec_len, vec_capacity};
+    ghost use Rattle.std.specs.Prelude.{◌≡◌, ◌≢◌, ◌<◌, ◌≤◌, ◌++◌, ◌∷◌, [], ℕ, length, Ok, IfOk, OnOk, OnErr, IsErrOf, vec_len, vec_capacity};
     ghost use Rattle.hse_io.specs.Faults.{Rose, HasCause};
     ghost use Rattle.hse_shell.specs.declared.log.FlushFault.{FlushFault};
     ghost use Rattle.hse_shell.specs.Machine.{Machine, all_synced};
@@ -63,6 +63,8 @@ impl Engine {
         ensures device { IsErrOf result FlushFault.Device → Rose (D.faults disk.old) (D.faults disk.new) }
         ensures later { D.faults disk.old ≤ D.faults disk.new }
         ensures idle { self.old.count ≡ 0 → disk.new ≡ disk.old }
+        ensures asked { IsErrOf result FlushFault.Device → self.old.count ≢ 0 }
+        ensures at_once { D.faults disk.old < D.faults disk.new → IsErrOf result FlushFault.Device }
         ensures extent { D.extent disk.new ≡ D.extent disk.old }
         ensures number { self.new.number ≡ self.old.number }
         ensures marks { self.new.marks ≡ self.old.marks }
@@ -114,6 +116,7 @@ impl Engine {
         ensures noted { (n : ℕ) → result ≡ Ok (Reply.Ok n) → self.new.marks.items ≡ self.old.marks.items
             ++ (record { life = 0; number = n; moment = D.moment disk.new }) ∷ [] }
         ensures cause { HasCause (D.faults disk.old) (D.faults disk.new) result }
+        ensures asked { OnErr result (self.old.count ≢ 0) }
         ensures extent { D.extent disk.new ≡ D.extent disk.old }
     {
         let Ok(()) = self.marks.reserve(1) else {

@@ -1,5 +1,5 @@
 //! Opens an empty device.
-ghost use Rattle.std.specs.Prelude.{◌≡◌, ◌≢◌, ℕ, ◌≤◌, [], IfOk, OnOk, IsErrOf};
+ghost use Rattle.std.specs.Prelude.{◌≡◌, ◌≢◌, ℕ, ◌<◌, ◌≤◌, [], IfOk, OnOk, IsErrOf};
 ghost use Rattle.hse_io.specs.Faults.{Rose, HasCause};
 ghost use Rattle.hse_shell.specs.Machine.{opening};
 ghost use Rattle.hse_shell.specs.Logged.{Serves, IsStarted, IsUntouched, WasEmptyOrStays};
@@ -65,6 +65,7 @@ fn format<D: Disk>(disk: &mut D) -> Result<Tail, OpenFault>
     ensures empty { OnOk result (D.tells → D.seen disk.old ≡ []) }
     ensures kept { WasEmptyOrStays D.Disk disk.old disk.new }
     ensures memory { IsErrOf result OpenFault.NoMemory → ⊥ }
+    ensures at_once { D.faults disk.old < D.faults disk.new → IsErrOf result OpenFault.Device }
     ensures later { D.faults disk.old ≤ D.faults disk.new }
 {
     let size = measure(disk)?;
@@ -82,6 +83,7 @@ pub(crate) fn open<D: Disk>(alloc: Global, disk: &mut D) -> Result<Engine, OpenF
     ensures kept { WasEmptyOrStays D.Disk disk.old disk.new }
     ensures not_empty { (size : ℕ) → IsErrOf result (OpenFault.NotEmpty size) → (size ≢ 0) × IsUntouched D.Disk disk.old disk.new size }
     ensures device { IsErrOf result OpenFault.Device → Rose (D.faults disk.old) (D.faults disk.new) }
+    ensures at_once { D.faults disk.old < D.faults disk.new → IsErrOf result OpenFault.Device }
     ensures later { D.faults disk.old ≤ D.faults disk.new }
 {
     let Ok(marks) = Vec::with_capacity(alloc, 1) else {

@@ -1,5 +1,5 @@
 //! A run of a script on a device.
-ghost use Rattle.std.specs.Prelude.{◌≡◌, ◌⊎◌, ◌≤◌, [], IsErrOf, OnOk, IfErr};
+ghost use Rattle.std.specs.Prelude.{◌≡◌, ◌⊎◌, ◌<◌, ◌≤◌, [], IsErrOf, OnOk, IfErr};
 ghost use Rattle.std.specs.Io.KnownBytes.{Appends};
 ghost use Rattle.hse_io.specs.Faults.{Rose};
 ghost use Rattle.hse_shell.specs.Ending.{AppendsOrFails};
@@ -63,6 +63,7 @@ fn serve<S: Source, K: Sink, D: Disk>(
     ensures read { result ≡ Status.ReadFault → Rose (S.faults source.old) (S.faults source.new) }
     ensures write { result ≡ Status.WriteFault → Rose (K.faults sink.old) (K.faults sink.new) }
     ensures device { result ≡ Status.DeviceFault → Rose (D.faults disk.old) (D.faults disk.new) }
+    ensures at_once { D.faults disk.old < D.faults disk.new → result ≡ Status.DeviceFault }
     ensures kept { WasEmptyOrStays D.Disk disk.old disk.new }
     ensures later { K.faults sink.old ≤ K.faults sink.new }
 {
@@ -102,6 +103,8 @@ pub fn run_script<S: Source, K: Sink, D: Disk>(
     ensures read { result.status ≡ Status.ReadFault → Rose (S.faults source.old) (S.faults source.new) }
     ensures write { result.status ≡ Status.WriteFault → Rose (K.faults sink.old) (K.faults sink.new) }
     ensures device { result.status ≡ Status.DeviceFault → Rose (D.faults disk.old) (D.faults disk.new) }
+    // A device that has failed ends the run at once.
+    ensures at_once { D.faults disk.old < D.faults disk.new → result.status ≡ Status.DeviceFault }
 
     // Where no count rose, lines within their limits on an empty device are run to their end, or memory is refused.
     ensures complete { D.tells → D.seen disk.old ≡ [] → IsGoodInput (S.remaining source.old)

@@ -1,7 +1,7 @@
 //! One line of a script.
-ghost use Rattle.std.specs.Prelude.{◌≡◌, ◌^◌, ◌<◌, ◌≤◌, ◌++◌, length, OnOk, IsOk, IsErrOf};
+ghost use Rattle.std.specs.Prelude.{◌≡◌, ◌≢◌, ◌^◌, ◌<◌, ◌≤◌, ◌++◌, length, OnOk, IsOk, IsErrOf};
 ghost use Rattle.hse_io.specs.Faults.{Rose};
-ghost use Rattle.hse_shell.specs.Grammar.{Means, puts, dels, gets, syncs};
+ghost use Rattle.hse_shell.specs.Grammar.{Means, IsSilent, puts, dels, gets, syncs};
 ghost use Rattle.hse_shell.specs.Replies.{answer_line, bad_line};
 ghost use Rattle.hse_shell.specs.Machine.{Machine};
 ghost use Rattle.hse_shell.specs.Stands.{Stands};
@@ -79,6 +79,8 @@ fn sync_line<D: Disk>(
     ensures said { OnOk result ((m : Machine) → Serves D.Disk disk.old engine.old m
         → Synced D.Disk m text.old.items text.new.items disk.new engine.new) }
     ensures device { IsErrOf result Stop.Device → Rose (D.faults disk.old) (D.faults disk.new) }
+    ensures asked { IsErrOf result Stop.Device → engine.old.count ≢ 0 }
+    ensures at_once { D.faults disk.old < D.faults disk.new → IsErrOf result Stop.Device }
     ensures later { D.faults disk.old ≤ D.faults disk.new }
     ensures extent { D.extent disk.new ≡ D.extent disk.old }
 {
@@ -101,8 +103,11 @@ pub(crate) fn turn<D: Disk>(
     ensures turned { OnOk result ((m : Machine) → Serves D.Disk disk.old engine.old m
         → Turned D.Disk m line.now text.old.items text.new.items disk.new engine.new) }
     ensures device { IsErrOf result Stop.Device → Rose (D.faults disk.old) (D.faults disk.new) }
-    // No other line asks the device.
+    // The device is asked in a sync alone, and only where commits wait.
     ensures sync { IsErrOf result Stop.Device → Means line.now syncs }
+    ensures asked { IsErrOf result Stop.Device → engine.old.count ≢ 0 }
+    ensures at_once { D.faults disk.old < D.faults disk.new → IsErrOf result Stop.Device }
+    ensures spoken { IsErrOf result Stop.NoMemory → IsSilent line.now → ⊥ }
     ensures later { D.faults disk.old ≤ D.faults disk.new }
     ensures extent { D.extent disk.new ≡ D.extent disk.old }
 {

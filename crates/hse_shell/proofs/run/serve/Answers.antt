@@ -1,4 +1,4 @@
-use Rattle.std.proofs.Common.{◌≡◌, ℕ, [], ap, sym, subst}
+use Rattle.std.proofs.Common.{refl, ◌≡◌, ℕ, [], ap, sym, subst}
 use Rattle.std.specs.Prelude.{Err}
 use Rattle.std.specs.Io.KnownBytes.{Appends}
 use Rattle.hse_shell.specs.Ending.{AppendsOrFails}
@@ -14,10 +14,11 @@ returns-in-Err-NotEmpty-clause-ends g c =
     let start : Start g.row.D.Denot = record { device = c.args.disk.now; input = g.S.Source.remaining c.args.source.now; held = g.K.Sink.contents c.args.sink.now } in
     let full = c.in-Err-NotEmpty.ensures.not_empty c.in-Err-NotEmpty.size (ap Err c.in-Err-NotEmpty.field-0-is) in
     ends_refused g.D.Disk c.refuse.result start (g.S.Source.remaining c.args.source.now) (g.K.Sink.contents c.refuse.new.sink)
-    (g.K.Sink.faults c.args.sink.now) (g.K.Sink.faults c.refuse.new.sink) c.open.new.disk c.refuse.ensures.status
+    (g.K.Sink.faults c.args.sink.now) (g.K.Sink.faults c.refuse.new.sink) c.open.new.disk c.refuse.ensures.status refl
     (λ is. record {
       size = c.in-Err-NotEmpty.size;
       some = full.0;
+      unread = refl;
       untouched = full.1;
       told = subst (λ (size : ℕ). AppendsOrFails (g.K.Sink.faults c.args.sink.now) (g.K.Sink.faults c.refuse.new.sink) (g.K.Sink.contents c.args.sink.now) (g.K.Sink.contents c.refuse.new.sink) (not_empty_text size))
           c.in-Err-NotEmpty.size-is (c.refuse.ensures.told is);

@@ -1,8 +1,9 @@
 use Rattle.std.proofs.Common.{refl, sym}
 use Rattle.std.proofs.lemmas.List.{append-nil}
 use Rattle.std.proofs.lemmas.Result.{on_ok_weaker}
-use Rattle.hse_shell.specs.Grammar.{puts, dels, silent, unknown}
+use Rattle.hse_shell.specs.Grammar.{puts, dels, gets, syncs, silent, unknown}
 use Rattle.hse_shell.specs.Replies.{bad_line, no_reply}
+use Rattle.hse_shell.proofs.GrammarLemmas.{not_silent}
 use Rattle.hse_shell.proofs.TurnLemmas.{serves_put, serves_del}
 use Rattle.hse_shell.proofs.turn.turn.Goals as goal
 
@@ -47,3 +48,18 @@ returns-in-Silent-clause-turned g c m s = record {
   turned = record { step = refl; serves = s };
   said = sym (append-nil c.args.text.now.items);
 }
+
+pub returns-in-Put-clause-spoken : goal.returns-in-Put-clause-spoken
+returns-in-Put-clause-spoken g c failed is = not_silent c.args.line.now (puts c.in-Put.key.now c.in-Put.value.now) (λ e. cc) c.in-Put.ensures.means is
+
+pub returns-in-Del-clause-spoken : goal.returns-in-Del-clause-spoken
+returns-in-Del-clause-spoken g c failed is = not_silent c.args.line.now (dels c.in-Del.key.now) (λ e. cc) c.in-Del.ensures.means is
+
+pub returns-in-Get-clause-spoken : goal.returns-in-Get-clause-spoken
+returns-in-Get-clause-spoken g c failed is = not_silent c.args.line.now (gets c.in-Get.key.now) (λ e. cc) c.in-Get.ensures.means is
+
+pub returns-in-Sync-clause-spoken : goal.returns-in-Sync-clause-spoken
+returns-in-Sync-clause-spoken g c failed is = not_silent c.args.line.now (syncs) (λ e. cc) c.in-Sync.ensures.means is
+
+pub returns-in-Unknown-clause-spoken : goal.returns-in-Unknown-clause-spoken
+returns-in-Unknown-clause-spoken g c failed is = not_silent c.args.line.now (unknown) (λ e. cc) c.in-Unknown.ensures.means is
