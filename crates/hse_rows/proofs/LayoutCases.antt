@@ -1,6 +1,6 @@
 -- Small cases of newest rows, packing, routing and the jobs, worked by hand.
 use Rattle.std.proofs.Common.{◌≡◌, ℕ, true, false, List, [], ◌∷◌, refl}
-use Rattle.std.specs.Prelude.{codes}
+use Rattle.std.specs.Prelude.{codes, map}
 use Rattle.hse_rows.specs.declared.change.Change.{Change}
 use Rattle.hse_rows.specs.declared.change.Change.TheVariants.{Put, Del, PDel}
 use Rattle.hse_rows.specs.declared.row.Row.{Row}
@@ -53,6 +53,16 @@ another_goes_elsewhere = refl
 
 the_next_depth_takes_the_next_digit : child_of 1 1 (codes "a1") ≡ 6
 the_next_depth_takes_the_next_digit = refl
+
+-- the digits of a key's path, from the root down
+abbrev path_of : ℕ → List ℕ → List ℕ
+path_of prefix_length key = map (λ depth. child_of depth prefix_length key) (0 ∷ 1 ∷ 2 ∷ 3 ∷ [])
+
+a_key_of_a_store_with_prefixes : path_of 2 (codes "ab1") ≡ 1 ∷ 2 ∷ 12 ∷ 0 ∷ []
+a_key_of_a_store_with_prefixes = refl
+
+a_key_of_a_store_without : path_of 0 (codes "k") ≡ 11 ∷ 6 ∷ 0 ∷ 0 ∷ []
+a_key_of_a_store_without = refl
 
 -- ---- jobs
 

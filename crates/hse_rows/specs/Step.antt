@@ -1,5 +1,5 @@
 -- A step of the machine: what a line may be answered, and where it leads.
-use Rattle.std.specs.Prelude.{◌≡◌, ℕ, ◌+◌, ◌-◌, List, length, map, Option, Some, None}
+use Rattle.std.specs.Prelude.{◌≡◌, ℕ, ◌+◌, ◌-◌, ◌<◌, List, length, map, Option, Some, None}
 use Rattle.std.specs.Ordering.{nat_cmp, on}
 use Rattle.std.specs.Cmp.Lexicographic.{slice_cmp}
 use Rattle.std.specs.FinMap as fin_map
@@ -93,19 +93,19 @@ done m reopen = m
 done m silent = m
 done m bad = m
 
--- The lines that write to the device.
-abbrev pub Writes : Line → Type 0
-Writes (create_store name mode prefix) = Unit {0}
-Writes (drop_store name) = Unit {0}
-Writes sync = Unit {0}
-Writes (put actor name key bytes) = ⊥
-Writes (del actor name key) = ⊥
-Writes (get actor name key) = ⊥
-Writes list_stores = ⊥
-Writes info = ⊥
-Writes reopen = ⊥
-Writes silent = ⊥
-Writes bad = ⊥
+-- The lines that write to the device: a sync does where commits wait for it.
+abbrev pub Writes : MachineState → Line → Type 0
+Writes m (create_store name mode prefix) = Unit {0}
+Writes m (drop_store name) = Unit {0}
+Writes m sync = m.safe < number_of m
+Writes m (put actor name key bytes) = ⊥
+Writes m (del actor name key) = ⊥
+Writes m (get actor name key) = ⊥
+Writes m list_stores = ⊥
+Writes m info = ⊥
+Writes m reopen = ⊥
+Writes m silent = ⊥
+Writes m bad = ⊥
 
 -- Where a device call of the line failed: a creation or a drop has happened, the manifest and what is safe stay.
 abbrev pub failing : MachineState → Line → MachineState
@@ -143,7 +143,7 @@ Step found old silent answer new = ⊥
 Step found old line no_memory new = new ≡ old
 Step found old reopen answer new = Reopens found old answer new
 -- a line that writes to the device may meet a fault
-Step found old line device_fault new = Writes line × (refusal old line ≡ None) × (new ≡ failing old line)
+Step found old line device_fault new = Writes old line × (refusal old line ≡ None) × (new ≡ failing old line)
 -- a refusal is the first of the table, and changes nothing
 Step found old line (refused reason) new = (refusal old line ≡ Some reason) × (new ≡ old)
 -- what nothing refuses is answered and done

@@ -189,3 +189,18 @@ fn a_set_may_cross_threads(rt: HostRuntime) -> Result<(), Fail> {
     assert_eq!(rt; set.charge(), 115);
     Ok(())
 }
+
+#[test]
+fn a_set_is_charged_more_than_a_segment_holds(rt: HostRuntime) -> Result<(), Fail> {
+    let alloc = rt.alloc();
+    let mut bytes = Vec::new(alloc);
+    bytes.resize(1_048_576, b'v')?;
+    let value = Value::new(alloc, &bytes, 1_048_576)?;
+    let mut set = WriteSet::empty(alloc);
+    for key in 0..65u8 {
+        let change = Change::Put(Key::new(alloc, &[key])?, value.share(alloc)?);
+        set.add(ONE, change)?;
+    }
+    assert_eq!(rt; set.charge(), 68_158_524);
+    Ok(())
+}

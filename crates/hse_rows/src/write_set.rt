@@ -1,5 +1,5 @@
 //! The changes of one commit, in normal form.
-ghost use Rattle.std.specs.Prelude.{◌≡◌, ◌+◌, ◌^◌, ◌<◌, [], ◌∷◌, ◌++◌, length, slice_index_or, OnOk, OnErr, IfOk};
+ghost use Rattle.std.specs.Prelude.{◌≡◌, ◌↔◌, ◌+◌, ◌^◌, ◌<◌, [], ◌∷◌, ◌++◌, length, slice_index_or, IsTrue, OnOk, OnErr, IfOk};
 ghost use Rattle.hse_rows.specs.declared.write.Write.{Write as a_write};
 ghost use Rattle.hse_rows.specs.Change.{change_of, write_of, FitsLimits};
 ghost use Rattle.std.specs.List.Sorted.{IsStrictlySortedBy};
@@ -42,6 +42,13 @@ const BESIDE: u64 = 12 + 32;
 /// The most bytes of changes whose charge is a `u64`.
 const MOST_BYTES: u128 = (u64::MAX - BESIDE) as u128;
 
+/// Whether changes of so many bytes have a charge that is a `u64`.
+fn has_charge(bytes: u128) -> bool
+    ensures { IsTrue result ↔ 12 + bytes + 32 < 2 ^ 64 }
+{
+    bytes <= MOST_BYTES
+}
+
 impl WriteSet {
     /// No changes.
     pub fn empty(alloc: Global) -> WriteSet
@@ -63,7 +70,7 @@ impl WriteSet {
         ensures unchanged { OnErr result (self.new ≡ self.old) }
     {
         let bytes = self.bytes_with(store, &change);
-        if bytes > MOST_BYTES {
+        if !has_charge(bytes) {
             return Err(NoMemory);
         }
         self.writes.reserve(1)?;

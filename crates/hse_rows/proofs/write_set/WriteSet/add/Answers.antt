@@ -24,7 +24,7 @@ pub invariant_of-self-2 : goal.invariant_of-self-2
 invariant_of-self-2 c = record {
   rising = subst (IsStrictlySortedBy write_cmp) (sym (is_added c)) (rising-added _ _ c.self.invariant.rising);
   counted = is_counted c;
-  fits = omega (arith, is_counted c, c.if-bytes-gt-MOST_BYTES.false);
+  fits = omega (arith, is_counted c, c.has_charge.ensures.0 c.if-not-has_charge.false);
 }
 
 pub returns-clause-written : goal.returns-clause-written
