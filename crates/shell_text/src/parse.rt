@@ -13,9 +13,11 @@ use crate::words::{actor, item, mode, name, number};
 use hse_rows::StoreName;
 use std::alloc::Global;
 
-/// What a line asks for. `BadLine` comes exactly where the line is outside the grammar.
+/// What a line asks for. `BadLine` comes exactly where the line is outside the grammar. A silent line takes no
+/// memory.
 pub fn parse_line(alloc: Global, bytes: &[u8]) -> Result<Line, TextFault>
     ensures meaning { IsReading (λ line. Means bytes.now line) result }
+    ensures silent { IsSilent bytes.now → result ≡ Ok Line.Silent }
 {
     if is_silent(bytes) {
         return Ok(Line::Silent);

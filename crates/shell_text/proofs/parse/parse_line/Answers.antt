@@ -11,4 +11,5 @@ returns-in-Ok c = record {
       (λ silent. false≢true (sym c.if-is_silent.false ∙ c.is_silent.ensures.1 silent))
       (ap texts c.deref.ensures.value ∙ c.in-Ok.ensures)
       c.read.ensures;
+  silent = λ is. absurd (false≢true (sym c.if-is_silent.false ∙ c.is_silent.ensures.1 is));
 }
