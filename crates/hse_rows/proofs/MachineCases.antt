@@ -14,16 +14,16 @@ use Rattle.hse_rows.specs.FirstRefusal.{refusal, refuse, key_refusal, value_refu
 use Rattle.hse_rows.specs.Step.{reply, done, failing}
 
 -- 64 slots of 65,536 bytes, halves of 65,536 and segments of 262,144
-abbrev small : Sizes
+abbrev pub small : Sizes
 small = record { slot_size = 65536; slots = 64; half_size = 65536; segment_size = 262144 }
 
-abbrev fresh : MachineState
+abbrev pub fresh : MachineState
 fresh = formatted small
 
-abbrev one_store : MachineState
+abbrev pub one_store : MachineState
 one_store = done fresh (create_store (codes "s") Plain 0)
 
-abbrev a_put : Line
+abbrev pub a_put : Line
 a_put = put outside (codes "s") (codes "a") (codes "1")
 
 a_creation_is_refused_by_nothing : refusal fresh (create_store (codes "s") Plain 0) ≡ None
@@ -51,14 +51,18 @@ nothing_refuses_a_put = refl
 the_second_event_is_2 : reply one_store a_put ≡ ok 2
 the_second_event_is_2 = refl
 
-the_store_is_listed : reply one_store list_stores ≡ listed (record { name = codes "s"; mode = Plain; prefix_length = 0 } ∷ [])
+the_store_is_listed :
+    reply one_store list_stores
+    ≡ listed (record { name = codes "s"; mode = Plain; prefix_length = 0 } ∷ [])
 the_store_is_listed = refl
 
 a_fresh_device_has_these_figures :
     reply fresh info ≡ figures (record { number = 0; frozen = 0; charge = 0; free = 64; manifest = 1 })
 a_fresh_device_has_these_figures = refl
 
-a_put_is_charged : reply (done one_store a_put) info ≡ figures (record { number = 2; frozen = 0; charge = 61; free = 64; manifest = 1 })
+a_put_is_charged :
+    reply (done one_store a_put) info
+    ≡ figures (record { number = 2; frozen = 0; charge = 61; free = 64; manifest = 1 })
 unfolding normal_form
 a_put_is_charged = refl
 
@@ -68,7 +72,9 @@ a_dropped_store_is_gone = refl
 a_drop_is_an_event : number_of (done one_store (drop_store (codes "s"))) ≡ 2
 a_drop_is_an_event = refl
 
-a_transaction_s_store_takes_no_write_outside : refusal (done fresh (create_store (codes "s") Tx 0)) a_put ≡ Some store_mode
+a_transaction_s_store_takes_no_write_outside :
+    refusal (done fresh (create_store (codes "s") Tx 0)) a_put
+    ≡ Some store_mode
 a_transaction_s_store_takes_no_write_outside = refl
 
 a_broken_engine_refuses_writes : refusal (failing one_store sync) a_put ≡ Some broken
@@ -106,7 +112,9 @@ too_many_numbers_for_a_half : (taken : List ℕ) (store : Store) → length take
 too_many_numbers_for_a_half taken store many one i = 5 + (25 + 8 * many i + (0 + (15 + one i)))
 
 -- with 16 bytes left a creation starts the other half
-a_full_half_rolls : gained 65536 (record { sequence = 1; used = 65520; taken = [] }) 18 26246 (1 ∷ []) ≡ record { sequence = 2; used = 26256; taken = 1 ∷ [] }
+a_full_half_rolls :
+    gained 65536 (record { sequence = 1; used = 65520; taken = [] }) 18 26246 (1 ∷ [])
+    ≡ record { sequence = 2; used = 26256; taken = 1 ∷ [] }
 a_full_half_rolls = refl
 
 -- ---- refusals at their limits
@@ -115,7 +123,9 @@ a_value_of_65472_bytes_is_taken : (bytes : List ℕ) → length bytes ≡ 65472 
 a_value_of_65472_bytes_is_taken bytes long =
     ap (λ (n : ℕ). refuse (nat_lt (longest_value small) n) (value_length n) None) long
 
-one_byte_more_is_refused : (bytes : List ℕ) → length bytes ≡ 65473 → value_refusal small bytes None ≡ Some (value_length 65473)
+one_byte_more_is_refused :
+    (bytes : List ℕ) → length bytes ≡ 65473 → value_refusal small bytes None
+    ≡ Some (value_length 65473)
 one_byte_more_is_refused bytes long =
     ap (λ (n : ℕ). refuse (nat_lt (longest_value small) n) (value_length n) None) long
 
@@ -130,7 +140,8 @@ a_key_of_1345_bytes_is_refused key long =
 -- where 240,240 bytes of a segment of 262,144 are taken
 a_fifth_commit_of_60060_has_no_room : (m : MachineState) → whole_room m ≡ 262080 → left_room m ≡ 21840
     → log_refusal m 60060 ≡ Some (log_full 60060 21840)
-a_fifth_commit_of_60060_has_no_room m whole left i = refuse (nat_lt (whole i) 60060) (txn_size 60060 (whole i)) (refuse (nat_lt (left i) 60060) (log_full 60060 (left i)) None)
+a_fifth_commit_of_60060_has_no_room m whole left i =
+    refuse (nat_lt (whole i) 60060) (txn_size 60060 (whole i)) (refuse (nat_lt (left i) 60060) (log_full 60060 (left i)) None)
 
 a_commit_larger_than_a_segment_is_refused : (m : MachineState) → whole_room m ≡ 262080
     → log_refusal m 300124 ≡ Some (txn_size 300124 262080)

@@ -1,0 +1,160 @@
+-- Small cases of lengths, names and what a maker refuses, worked by hand.
+use Rattle.std.proofs.Common.{◌≡◌, ℕ, ◌<◌, ◌≤◌, true, false, List, [], ◌∷◌, map, refl, sym, arith}
+use Rattle.std.proofs.Math.Bool.{true≢false}
+use Rattle.std.specs.Prelude.{codes, replicate}
+use Rattle.std.specs.List.{list_all}
+use Rattle.hse_rows.specs.declared.change.Change.TheVariants.{Put, Del, PDel}
+use Rattle.hse_rows.specs.declared.key.KeyFault.TheVariants as key
+use Rattle.hse_rows.specs.declared.value.ValueFault.TheVariants as value
+use Rattle.hse_rows.specs.declared.prefix.PrefixFault.TheVariants as prefix
+use Rattle.hse_rows.specs.declared.name.NameFault.TheVariants as name
+use Rattle.hse_rows.specs.Lengths.{IsKeyLength, IsEdgeLength, IsPrefixLength, FitsPrefix}
+use Rattle.hse_rows.specs.Names.{is_name_byte, IsName}
+use Rattle.hse_rows.specs.Refusals.{RefusesKey, RefusesEdge, RefusesValue, RefusesPrefix, RefusesName}
+use Rattle.hse_rows.specs.Change.{FitsLimits}
+use Rattle.hse_rows.specs.Laws.{HasLengthOf}
+use Rattle.hse_rows.specs.Change.{write_of}
+use Rattle.hse_rows.specs.Machine.{longest_value}
+use Rattle.hse_rows.proofs.MachineCases.{small}
+
+-- ---- lengths
+
+a_key_has_1_byte_or_more : IsKeyLength 1 × ¬ IsKeyLength 0
+a_key_has_1_byte_or_more =
+    let some : 0 < 1 = omega arith in
+    let few : 1 ≤ 1344 = omega arith in
+    ((some, few), λ is. absurd (omega (arith, is.0)))
+
+a_key_has_1344_bytes_at_most : IsKeyLength 1344 × ¬ IsKeyLength 1345
+a_key_has_1344_bytes_at_most =
+    let some : 0 < 1344 = omega arith in
+    let few : 1344 ≤ 1344 = omega arith in
+    ((some, few), λ is. absurd (omega (arith, is.1)))
+
+an_edge_may_be_empty : IsEdgeLength 0
+an_edge_may_be_empty = omega arith
+
+an_edge_has_1344_bytes_at_most : IsEdgeLength 1344 × ¬ IsEdgeLength 1345
+an_edge_has_1344_bytes_at_most =
+    let few : 1344 ≤ 1344 = omega arith in
+    (few, λ is. absurd (omega (arith, is)))
+
+a_prefix_has_32_bytes_at_most : IsPrefixLength 32 × ¬ IsPrefixLength 33
+a_prefix_has_32_bytes_at_most =
+    let some : 0 < 32 = omega arith in
+    let few : 32 ≤ 32 = omega arith in
+    ((some, few), λ is. absurd (omega (arith, is.1)))
+
+a_prefix_has_its_store_s_length : FitsPrefix 2 2 × ¬ FitsPrefix 2 3
+a_prefix_has_its_store_s_length =
+    let some : 0 < 2 = omega arith in
+    let few : 2 ≤ 32 = omega arith in
+    (((some, few), refl), λ is. absurd (omega (arith, is.1)))
+
+a_store_without_prefixes_takes_none : ¬ FitsPrefix 0 0
+a_store_without_prefixes_takes_none is = absurd (omega (arith, is.0.0))
+
+a_put_has_a_key : ¬ FitsLimits (Put [] (codes "v"))
+a_put_has_a_key is = absurd (omega (arith, is.0))
+
+a_del_has_a_key : FitsLimits (Del (codes "k"))
+a_del_has_a_key =
+    let some : 0 < 1 = omega arith in
+    let few : 1 ≤ 1344 = omega arith in
+    (some, few)
+
+a_prefix_delete_has_a_prefix : FitsLimits (PDel (codes "ab")) × ¬ FitsLimits (PDel [])
+a_prefix_delete_has_a_prefix =
+    let some : 0 < 2 = omega arith in
+    let few : 2 ≤ 32 = omega arith in
+    ((some, few), λ is. absurd (omega (arith, is.0)))
+
+-- stores 1 and 2 with prefixes of 1 and 2 bytes
+a_write_s_prefix_is_its_store_s :
+    HasLengthOf (λ id. id) (write_of (record { 0 = 2 }) (PDel (codes "ab")))
+    × ¬ HasLengthOf (λ id. id) (write_of (record { 0 = 1 }) (PDel (codes "ab")))
+a_write_s_prefix_is_its_store_s = (refl, λ is. absurd (omega (arith, is)))
+
+a_write_of_a_key_fits_any : HasLengthOf (λ id. id) (write_of (record { 0 = 1 }) (Del (codes "ab")))
+a_write_of_a_key_fits_any = tt
+
+a_value_leaves_64_bytes_of_a_slot : longest_value small ≡ 65472
+a_value_leaves_64_bytes_of_a_slot = refl
+
+a_value_has_a_mebibyte_at_most : longest_value (record small { slot_size = 2097152 }) ≡ 1048576
+a_value_has_a_mebibyte_at_most = refl
+
+-- ---- names
+
+-- the first and the last of the small letters, the capitals and the digits, and the two others
+these_stand_in_names : list_all is_name_byte (codes "azAZ09-_") ≡ true
+these_stand_in_names = refl
+
+-- the bytes beside them, and a space
+those_do_not : map is_name_byte (96 ∷ 123 ∷ 64 ∷ 91 ∷ 47 ∷ 58 ∷ 44 ∷ 46 ∷ 94 ∷ 32 ∷ [])
+    ≡ false ∷ false ∷ false ∷ false ∷ false ∷ false ∷ false ∷ false ∷ false ∷ false ∷ []
+those_do_not = refl
+
+-- as many letters
+abbrev letters_of : ℕ → List ℕ
+letters_of count = replicate count 97
+
+a_name_has_a_letter : IsName (letters_of 1)
+a_name_has_a_letter = record { some = omega arith; most = omega arith; letters = refl }
+
+a_name_has_31_letters : IsName (letters_of 31)
+a_name_has_31_letters = record { some = omega arith; most = omega arith; letters = refl }
+
+thirty_two_are_too_many : ¬ IsName (letters_of 32)
+thirty_two_are_too_many is =
+    let few : 32 ≤ 31 = is.most in
+    absurd (omega (arith, few))
+
+nothing_is_no_name : ¬ IsName []
+nothing_is_no_name is =
+    let some : 0 < 0 = is.some in
+    absurd (omega (arith, some))
+
+a_space_is_in_no_name : ¬ IsName (codes "a b")
+a_space_is_in_no_name is = absurd (true≢false (sym is.letters))
+
+-- ---- refusals
+
+a_long_key_is_refused_with_its_length : RefusesKey 1345 (key.Length 1345) × ¬ RefusesKey 1345 (key.Length 1344)
+a_long_key_is_refused_with_its_length =
+    ((refl, λ is. absurd (omega (arith, is.1))), λ refuses. absurd (omega (arith, refuses.0)))
+
+a_key_within_is_refused_for_memory_alone : RefusesKey 1 key.NoMemory × ¬ RefusesKey 1 (key.Length 1)
+a_key_within_is_refused_for_memory_alone = (a_key_has_1_byte_or_more.0, λ refuses. refuses.1 a_key_has_1_byte_or_more.0)
+
+a_long_key_is_not_refused_for_memory : ¬ RefusesKey 1345 key.NoMemory
+a_long_key_is_not_refused_for_memory = a_key_has_1344_bytes_at_most.1
+
+an_empty_edge_is_not_refused_for_its_length : ¬ RefusesEdge 0 (key.Length 0)
+an_empty_edge_is_not_refused_for_its_length refuses = refuses.1 an_edge_may_be_empty
+
+a_long_edge_is_refused : RefusesEdge 1345 (key.Length 1345)
+a_long_edge_is_refused = (refl, an_edge_has_1344_bytes_at_most.1)
+
+a_value_above_its_most_is_refused : RefusesValue 65472 65473 (value.Length 65473)
+a_value_above_its_most_is_refused =
+    let above : 65472 < 65473 = omega arith in
+    (refl, above)
+
+one_of_its_most_is_not : ¬ RefusesValue 65472 65472 (value.Length 65472)
+one_of_its_most_is_not refuses = absurd (omega (arith, refuses.1))
+
+a_prefix_of_another_length_is_refused : RefusesPrefix 2 3 (prefix.Length 3)
+a_prefix_of_another_length_is_refused = (refl, a_prefix_has_its_store_s_length.1)
+
+one_of_its_store_s_length_is_not : ¬ RefusesPrefix 2 2 (prefix.Length 2)
+one_of_its_store_s_length_is_not refuses = refuses.1 a_prefix_has_its_store_s_length.0
+
+every_prefix_is_refused_where_none_is_allowed : RefusesPrefix 0 0 (prefix.Length 0)
+every_prefix_is_refused_where_none_is_allowed = (refl, a_store_without_prefixes_takes_none)
+
+an_empty_name_is_refused : RefusesName [] name.BadName
+an_empty_name_is_refused = nothing_is_no_name
+
+a_good_name_is_not : ¬ RefusesName (letters_of 31) name.BadName
+a_good_name_is_not refuses = refuses a_name_has_31_letters

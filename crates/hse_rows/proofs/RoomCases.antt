@@ -1,0 +1,234 @@
+-- Small cases of the machine's limits: stores, numbers and the manifest's room, worked by hand.
+use Rattle.std.proofs.Common.{◌≡◌, ℕ, ◌+◌, ◌-◌, ◌*◌, ◌/◌, ◌%◌, ◌≤◌, [], ◌∷◌, map, Some, None, refl, arith}
+use Rattle.std.specs.Prelude.{codes}
+use Rattle.std.specs.List.{range_with_len}
+use Rattle.hse_rows.specs.declared.store.Mode.TheVariants.{Plain, Tx}
+use Rattle.hse_rows.specs.NormalForm.{normal_form}
+use Rattle.hse_rows.specs.State.{Store}
+use Rattle.hse_rows.specs.History.{new_store}
+use Rattle.hse_rows.specs.Log.{new_log}
+use Rattle.hse_rows.specs.Lines.{outside, Line, create_store, drop_store, list_stores, del, get, sync, info}
+use Rattle.hse_rows.specs.Answers.{store_exists, broken, too_many, spent, manifest_full, txn_size, log_full, ok, listed, figures}
+use Rattle.hse_rows.specs.Machine.{MachineState, IsWithinLimits, formatted, loaded, failed, new_manifest}
+use Rattle.hse_rows.specs.FirstRefusal.{refusal}
+use Rattle.hse_rows.specs.Step.{loads, reply, done}
+use Rattle.hse_rows.specs.Laws.{LoadsWithinLimits}
+use Rattle.hse_rows.proofs.MachineCases.{small, fresh, a_put}
+
+abbrev creation : Line
+creation = create_store (codes "t") Plain 0
+
+-- ---- live stores
+
+-- stores aa, ab and so on
+abbrev lettered : ℕ → Store
+lettered id = new_store id ((97 + (id - 1) / 26) ∷ (97 + (id - 1) % 26) ∷ []) Plain 0
+
+-- as many creations, by this number
+unfoldable pub with_stores : ℕ → ℕ → MachineState
+with_stores count number =
+    loaded small (record { number = number; stores = map lettered (range_with_len 1 count) }) new_log
+    (record { sequence = 1; used = 40 + 25 * count; taken = range_with_len 1 count }) 0
+
+a_store_above_256_is_refused : refusal (with_stores 256 256) creation ≡ Some (too_many 256)
+unfolding with_stores
+a_store_above_256_is_refused = refl
+
+the_last_of_256_is_taken : refusal (with_stores 255 255) creation ≡ None
+unfolding with_stores
+the_last_of_256_is_taken = refl
+
+a_drop_makes_room_for_one : refusal (done (with_stores 256 256) (drop_store (codes "jv"))) creation ≡ None
+unfolding with_stores
+a_drop_makes_room_for_one = refl
+
+a_name_is_refused_before_the_count : refusal (with_stores 256 256) (create_store (codes "jv") Tx 0) ≡ Some store_exists
+unfolding with_stores
+a_name_is_refused_before_the_count = refl
+
+a_broken_engine_is_refused_before_the_count : refusal (failed (with_stores 256 256)) creation ≡ Some broken
+unfolding with_stores
+a_broken_engine_is_refused_before_the_count = refl
+
+the_count_is_refused_before_the_number : refusal (with_stores 256 4611686018427387904) creation ≡ Some (too_many 256)
+unfolding with_stores
+the_count_is_refused_before_the_number = refl
+
+-- ---- numbers
+
+-- a store s, at this number
+abbrev at_number : ℕ → MachineState
+at_number number =
+    loaded small (record { number = number; stores = new_store 1 (codes "s") Plain 0 ∷ [] }) new_log new_manifest 0
+
+no_event_follows_the_last_number :
+    map (refusal (at_number 4611686018427387904)) (creation ∷ drop_store (codes "s") ∷ a_put
+    ∷ del outside (codes "s") (codes "a") ∷ [])
+    ≡ Some spent ∷ Some spent ∷ Some spent ∷ Some spent ∷ []
+unfolding normal_form
+no_event_follows_the_last_number = refl
+
+what_is_no_event_goes_on :
+    map (refusal (at_number 4611686018427387904)) (get outside (codes "s") (codes "a") ∷ sync ∷ []) ≡ None ∷ None ∷ []
+what_is_no_event_goes_on = refl
+
+the_last_number_is_given : reply (at_number 4611686018427387903) a_put ≡ ok 4611686018427387904
+the_last_number_is_given = refl
+
+the_number_before_it_is_not_the_last : refusal (at_number 4611686018427387903) a_put ≡ None
+unfolding normal_form
+the_number_before_it_is_not_the_last = refl
+
+after_it_no_event_comes : refusal (done (at_number 4611686018427387903) a_put) a_put ≡ Some spent
+unfolding normal_form
+after_it_no_event_comes = refl
+
+a_broken_engine_is_refused_before_the_number : refusal (failed (at_number 4611686018427387904)) a_put ≡ Some broken
+unfolding normal_form
+a_broken_engine_is_refused_before_the_number = refl
+
+-- ---- the manifest
+
+-- after 4,093 rounds of a creation and a drop
+after_all_rounds : MachineState
+after_all_rounds =
+    loaded small (record { number = 8186; stores = [] }) new_log
+    (record { sequence = 18; used = 65528; taken = range_with_len 1 8186 }) 0
+
+no_half_takes_the_next_creation :
+    refusal after_all_rounds (create_store (codes "s") Plain 0)
+    ≡ Some (manifest_full 65542 65526)
+unfolding after_all_rounds
+no_half_takes_the_next_creation = refl
+
+they_leave_no_store : reply after_all_rounds list_stores ≡ listed []
+unfolding after_all_rounds
+they_leave_no_store = refl
+
+they_leave_the_18th_half :
+    reply after_all_rounds info
+    ≡ figures (record { number = 8186; frozen = 0; charge = 0; free = 64; manifest = 18 })
+unfolding after_all_rounds
+they_leave_the_18th_half = refl
+
+-- The same from the first round on, in halves of 100 bytes.
+abbrev round : MachineState → MachineState
+round m = done (done m (create_store (codes "s") Plain 0)) (drop_store (codes "s"))
+
+abbrev tiny : MachineState
+tiny = formatted (record small { half_size = 100 })
+
+a_round_takes_40_bytes : (round tiny).manifest ≡ record { sequence = 1; used = 80; taken = 1 ∷ 2 ∷ [] }
+a_round_takes_40_bytes = refl
+
+the_second_round_starts_a_half :
+    (round (round tiny)).manifest
+    ≡ record { sequence = 2; used = 72; taken = 1 ∷ 2 ∷ 3 ∷ 4 ∷ [] }
+the_second_round_starts_a_half = refl
+
+the_third_starts_another :
+    (round (round (round tiny))).manifest
+    ≡ record { sequence = 3; used = 88; taken = 1 ∷ 2 ∷ 3 ∷ 4 ∷ 5 ∷ 6 ∷ [] }
+the_third_starts_another = refl
+
+the_fourth_is_refused :
+    refusal (round (round (round tiny))) (create_store (codes "s") Plain 0)
+    ≡ Some (manifest_full 102 90)
+the_fourth_is_refused = refl
+
+-- a half that has this much used
+abbrev with_half : ℕ → ℕ → MachineState
+with_half sequence used = record fresh { manifest = record { sequence = sequence; used = used; taken = [] } }
+
+an_entry_may_fill_its_half :
+    (done (with_half 1 65518) creation).manifest
+    ≡ record { sequence = 1; used = 65536; taken = 1 ∷ [] }
+an_entry_may_fill_its_half = refl
+
+one_byte_less_starts_the_other_half :
+    (done (with_half 1 65519) creation).manifest
+    ≡ record { sequence = 2; used = 64; taken = 1 ∷ [] }
+one_byte_less_starts_the_other_half = refl
+
+-- a full half of this size, after which a new one takes 54 bytes behind its head of 10
+abbrev with_full : ℕ → MachineState
+with_full size = record (with_half 1 size) { sizes = record small { half_size = size } }
+
+a_whole_state_may_fill_a_half : (done (with_full 64) creation).manifest
+    ≡ record { sequence = 2; used = 64; taken = 1 ∷ [] }
+a_whole_state_may_fill_a_half = refl
+
+and_is_not_refused : refusal (with_full 64) creation ≡ None
+and_is_not_refused = refl
+
+in_one_byte_less_it_is : refusal (with_full 63) creation ≡ Some (manifest_full 54 53)
+in_one_byte_less_it_is = refl
+
+no_half_follows_the_last_sequence :
+    refusal (with_half 4611686018427387904 65519) creation
+    ≡ Some (manifest_full 54 65526)
+no_half_follows_the_last_sequence = refl
+
+the_last_half_takes_what_fits : refusal (with_half 4611686018427387904 65518) creation ≡ None
+the_last_half_takes_what_fits = refl
+
+-- ---- the log: a put of a byte is charged 61
+
+-- a store s in a device of segments that have this much room
+abbrev with_room : ℕ → MachineState
+with_room room = done (formatted (record small { segment_size = 64 + room })) (create_store (codes "s") Plain 0)
+
+a_segment_may_be_full : refusal (done (with_room 122) a_put) a_put ≡ None
+unfolding normal_form
+a_segment_may_be_full = refl
+
+a_full_segment_takes_none : refusal (done (done (with_room 122) a_put) a_put) a_put ≡ Some (log_full 61 0)
+unfolding normal_form
+a_full_segment_takes_none = refl
+
+one_byte_less_is_too_few : refusal (done (with_room 121) a_put) a_put ≡ Some (log_full 61 60)
+unfolding normal_form
+one_byte_less_is_too_few = refl
+
+what_no_segment_takes_is_told_first : refusal (with_room 60) a_put ≡ Some (txn_size 61 60)
+unfolding normal_form
+what_no_segment_takes_is_told_first = refl
+
+a_deletion_takes_56 : refusal (done (with_room 117) a_put) (del outside (codes "s") (codes "a")) ≡ None
+unfolding normal_form
+a_deletion_takes_56 = refl
+
+-- ---- figures, where a layer is frozen and two slots are used
+
+abbrev with_sets : MachineState
+with_sets =
+    loaded small (record { number = 2; stores = new_store 1 (codes "s") Plain 0 ∷ [] })
+    (record new_log { frozen = record { last = 2; commits = [] } ∷ [] }) new_manifest 2
+
+figures_tell_layers_charge_and_slots :
+    reply (done with_sets a_put) info
+    ≡ figures (record { number = 3; frozen = 1; charge = 61; free = 62; manifest = 1 })
+unfolding normal_form
+figures_tell_layers_charge_and_slots = refl
+
+-- ---- the limits together
+
+a_new_device_is_within_them : IsWithinLimits fresh
+a_new_device_is_within_them = record {
+  room = omega arith;
+  numbers = omega arith;
+  stores = omega arith;
+  half = omega arith;
+  sequences = omega arith;
+}
+
+a_half_that_is_overfull_is_not : ¬ IsWithinLimits (with_half 1 65537)
+a_half_that_is_overfull_is_not within =
+    let half : 65537 ≤ 65536 = within.half in
+    absurd (omega (arith, half))
+
+it_may_be_loaded : LoadsWithinLimits (loads fresh)
+it_may_be_loaded = a_new_device_is_within_them
+
+such_a_half_may_not : ¬ LoadsWithinLimits (loads (with_half 1 65537))
+such_a_half_may_not = a_half_that_is_overfull_is_not
