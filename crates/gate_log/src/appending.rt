@@ -65,6 +65,8 @@ pub fn append<D: Disk>(
         → Rose (D.faults disk.old) (D.faults disk.new) }
     ensures later { D.faults disk.old ≤ D.faults disk.new }
     ensures quiet { OnOk result (D.faults disk.new ≡ D.faults disk.old) }
+    // The device is not called again once it failed.
+    ensures last { IsErrOf result AppendFault.Device → D.failed_at disk.new ≡ D.moment disk.new }
     ensures extent { D.extent disk.new ≡ D.extent disk.old }
     ensures clock { D.moment disk.old ≤ D.moment disk.new }
 

@@ -17,7 +17,7 @@ pub use appending::{AppendFault, append};
 pub use batch::Batch;
 pub use found::{Found, Payload, RegionFault};
 pub use front::{End, Front, FrontFault};
-pub use laws::one_reading;
+pub use laws::{one_front, one_reading};
 pub use reading::{read_front, read_region};
 pub use region::{Region, Tail};
 pub use starting::start;

@@ -28,6 +28,8 @@ pub fn read_front<D: Disk>(
     ensures device { IsErrOf result FrontFault.Device
         → Rose (D.faults disk.old) (D.faults disk.new) }
     ensures later { D.faults disk.old ≤ D.faults disk.new }
+    ensures at_once { D.faults disk.old < D.faults disk.new → IsErrOf result FrontFault.Device }
+    ensures last { IsErrOf result FrontFault.Device → D.failed_at disk.new ≡ D.moment disk.new }
     ensures extent { D.extent disk.new ≡ D.extent disk.old }
     ensures clock { D.moment disk.old ≤ D.moment disk.new }
     ensures seen { D.tells → D.seen disk.new ≡ D.seen disk.old }
@@ -63,6 +65,8 @@ pub fn read_region<D: Disk>(
     ensures device { IsErrOf result RegionFault.Device
         → Rose (D.faults disk.old) (D.faults disk.new) }
     ensures later { D.faults disk.old ≤ D.faults disk.new }
+    ensures at_once { D.faults disk.old < D.faults disk.new → IsErrOf result RegionFault.Device }
+    ensures last { IsErrOf result RegionFault.Device → D.failed_at disk.new ≡ D.moment disk.new }
     ensures extent { D.extent disk.new ≡ D.extent disk.old }
     ensures clock { D.moment disk.old ≤ D.moment disk.new }
     ensures seen { D.tells → D.seen disk.new ≡ D.seen disk.old }

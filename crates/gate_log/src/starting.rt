@@ -1,5 +1,5 @@
 //! Starts a region afresh.
-ghost use Rattle.std.specs.Prelude.{◌≡◌, ◌+◌, ◌^◌, ◌<◌, ◌≤◌, [], IfOk, OnOk};
+ghost use Rattle.std.specs.Prelude.{◌≡◌, ◌+◌, ◌^◌, ◌<◌, ◌≤◌, [], IfOk, OnOk, OnErr};
 ghost use Rattle.hse_io.specs.Faults.{HasCause};
 ghost use Rattle.media_disk.specs.Content.{Torn};
 ghost use Rattle.media_disk.specs.Images.{IsImage};
@@ -31,6 +31,8 @@ pub fn start<D: Disk>(disk: &mut D, region: &Region, sequence: u64) -> Result<Ta
 
     ensures tail { IfOk result (λ tail. tail.gate ≡ 9) }
     ensures cause { HasCause (D.faults disk.old) (D.faults disk.new) result }
+    // The device is not called again once it failed.
+    ensures last { OnErr result (D.failed_at disk.new ≡ D.moment disk.new) }
     ensures extent { D.extent disk.new ≡ D.extent disk.old }
     ensures clock { D.moment disk.old ≤ D.moment disk.new }
 

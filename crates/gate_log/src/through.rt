@@ -1,5 +1,5 @@
 //! A write that is made safe at once.
-ghost use Rattle.std.specs.Prelude.{◌≡◌, ◌+◌, ◌≤◌, [], length, OnOk};
+ghost use Rattle.std.specs.Prelude.{◌≡◌, ◌+◌, ◌≤◌, [], length, OnOk, OnErr};
 ghost use Rattle.hse_io.specs.Faults.{HasCause};
 ghost use Rattle.media_disk.specs.Content.{put_at, Torn};
 ghost use Rattle.media_disk.specs.Images.{IsImage};
@@ -19,6 +19,7 @@ pub(crate) fn write_and_sync<D: Disk>(disk: &mut D, at: u64, bytes: &[u8]) -> Re
     ensures extent { D.extent disk.new ≡ D.extent disk.old }
     ensures clock { D.moment disk.old ≤ D.moment disk.new }
     ensures cause { HasCause (D.faults disk.old) (D.faults disk.new) result }
+    ensures last { OnErr result (D.failed_at disk.new ≡ D.moment disk.new) }
     ensures crash { D.tells → Leaves (D.moment disk.old) (D.could disk.old) (D.could disk.new)
         (IsTornFrom at (length bytes.now) (IsImage (D.seen disk.old) (D.pending disk.old))) }
 {

@@ -7,7 +7,7 @@ use Rattle.std.proofs.lemmas.Nat.{be_bytes_2, be_bytes_4, be_bytes_8}
 use Rattle.byteorder.specs.Endian.{big_bytes, big_number}
 use Rattle.byteorder.specs.Numbers.{length-bytes_high_first, big_number-reads_back, big_from-lt}
 use Rattle.hse_fields.specs.LogText.{sized}
-use Rattle.hse_fields.specs.LogReading.{◌>>=◌, ensure, given, number_of, bytes_of, sized_of}
+use Rattle.hse_fields.specs.LogReading.{◌>>=◌, ensure, given, number_of, bytes_of, size_of, sized_of}
 
 abbrev pub IsBytes : List ℕ → Type 0
 IsBytes bytes = (i : ℕ) → get_or bytes i 0 < 256
@@ -111,32 +111,62 @@ number_again n x rest lt =
 
 -- ---- bytes behind their number
 
+pub bytes_takes : (n : ℕ) (bytes text rest : List ℕ) → IsBytes bytes → bytes_of n bytes ≡ Ok (text, rest)
+    → Takes bytes text rest × (length text ≡ n) × (take n bytes ≡ text) × (n ≤ length bytes)
+bytes_takes n bytes text rest fits e =
+    let g = guard_ok (nat_lt (length bytes) n) (length bytes) (take n bytes, drop n bytes) (text, rest) e in
+    let long : n ≤ length bytes = ltb-false _ _ g.0 in
+    let len : length (take n bytes) ≡ n = omega (arith, length-take n bytes) in
+    let front : Takes bytes (take n bytes) (drop n bytes) = record { parts = sym (take-append-drop n bytes); rest_fits = IsBytes-drop n bytes fits } in
+    subst (λ (p : List ℕ × List ℕ). Takes bytes p.0 p.1 × (length p.0 ≡ n) × (take n bytes ≡ p.0) × (n ≤ length bytes)) g.1 (front, len, refl, long)
+
+pub bytes_again : (text rest : List ℕ) → bytes_of (length text) (text ++ rest) ≡ Ok (text, rest)
+bytes_again text rest =
+    let long : nat_lt (length (text ++ rest)) (length text) ≡ false = le-ltb _ _ (omega (arith, length-append text rest)) in
+    rw (long, take_at text rest (length text) refl, drop_at text rest (length text) refl) refl
+
+pub size_takes : (n : ℕ) (width : IsWidth n) (least most : ℕ) (bytes : List ℕ) (x : ℕ) (rest : List ℕ) → IsBytes bytes → size_of n least most bytes ≡ Ok (x, rest)
+    → Takes bytes (big_bytes n x) rest × (least ≤ x) × (x ≤ most)
+unfolding size_of
+size_takes n width least most bytes x rest fits e =
+    let a = bind_ok (number_of n bytes) (λ size. ensure (nat_le least size.0 && nat_le size.0 most) (length bytes) >>= λ within. Ok (size.0, size.1)) (x, rest) e in
+    let size = a.0 in
+    let b = bind_ok (ensure (nat_le least size.0 && nat_le size.0 most) (length bytes)) (λ within. Ok (size.0, size.1)) (x, rest) a.2 in
+    let limits = and_parts _ _ (ensure_ok (nat_le least size.0 && nat_le size.0 most) (length bytes) b.0 b.1) in
+    let t = number_takes n width bytes size.0 size.1 fits a.1 in
+    subst (λ (p : ℕ × List ℕ). Takes bytes (big_bytes n p.0) p.1 × (least ≤ p.0) × (p.0 ≤ most)) (ok_is (size.0, size.1) (x, rest) b.2)
+    (t.0, leb-true _ _ limits.0, leb-true _ _ limits.1)
+
+pub size_again : (n least most x : ℕ) (rest : List ℕ) → x < 256 ^ n → least ≤ x → x ≤ most
+    → size_of n least most (big_bytes n x ++ rest) ≡ Ok (x, rest)
+unfolding size_of
+size_again n least most x rest fits low high =
+    let low_test : nat_le least x ≡ true = le-leb _ _ low in
+    let high_test : nat_le x most ≡ true = le-leb _ _ high in
+    rw (number_again n x rest fits, low_test, high_test) refl
+
+-- bytes that were taken behind their number
+pub behind_size : (n size : ℕ) (bytes middle text rest : List ℕ) → Takes bytes (big_bytes n size) middle → Takes middle text rest → length text ≡ size
+    → Takes bytes (sized n text) rest
+behind_size n size bytes middle text rest head body len =
+    let both = Takes-then bytes (big_bytes n size) middle text rest head body in
+    subst (λ (k : ℕ). Takes bytes (big_bytes n k ++ text) rest) (sym len) both
+
 pub sized_takes : (n : ℕ) (width : IsWidth n) (least most : ℕ) (bytes text rest : List ℕ) → IsBytes bytes → sized_of n least most bytes ≡ Ok (text, rest)
     → Takes bytes (sized n text) rest × (least ≤ length text) × (length text ≤ most)
 unfolding sized_of
 sized_takes n width least most bytes text rest fits e =
-    let a = bind_ok (number_of n bytes) (λ size. ensure (nat_le least size.0 && nat_le size.0 most) (length bytes) >>= λ within. bytes_of size.0 size.1) (text, rest) e in
-    let size = a.0 in
-    let b = bind_ok (ensure (nat_le least size.0 && nat_le size.0 most) (length bytes)) (λ within. bytes_of size.0 size.1) (text, rest) a.2 in
-    let test = ensure_ok (nat_le least size.0 && nat_le size.0 most) (length bytes) b.0 b.1 in
-    let g = guard_ok (nat_lt (length size.1) size.0) (length size.1) (take size.0 size.1, drop size.0 size.1) (text, rest) b.2 in
-    let t = number_takes n width bytes size.0 size.1 fits a.1 in
-    let long : size.0 ≤ length size.1 = ltb-false _ _ g.0 in
-    let len : length (take size.0 size.1) ≡ size.0 = omega (arith, length-take size.0 size.1) in
-    let second : Takes size.1 (take size.0 size.1) (drop size.0 size.1) = record { parts = sym (take-append-drop size.0 size.1); rest_fits = IsBytes-drop size.0 size.1 t.0.rest_fits } in
-    let both = Takes-then bytes (big_bytes n size.0) size.1 (take size.0 size.1) (drop size.0 size.1) t.0 second in
-    let whole : Takes bytes (sized n (take size.0 size.1)) (drop size.0 size.1) = subst (λ (k : ℕ). Takes bytes (big_bytes n k ++ take size.0 size.1) (drop size.0 size.1)) (sym len) both in
-    let limits = and_parts _ _ test in
-    let low : least ≤ length (take size.0 size.1) = rw len (leb-true _ _ limits.0) in
-    let high : length (take size.0 size.1) ≤ most = rw len (leb-true _ _ limits.1) in
-    subst (λ (p : List ℕ × List ℕ). Takes bytes (sized n p.0) p.1 × (least ≤ length p.0) × (length p.0 ≤ most)) g.1 (whole, low, high)
+    let a = bind_ok (size_of n least most bytes) (λ size. bytes_of size.0 size.1) (text, rest) e in
+    let head = size_takes n width least most bytes a.0.0 a.0.1 fits a.1 in
+    let body = bytes_takes a.0.0 a.0.1 text rest head.0.rest_fits a.2 in
+    let low : least ≤ length text = rw body.1 head.1 in
+    let high : length text ≤ most = rw body.1 head.2 in
+    (behind_size n a.0.0 bytes a.0.1 text rest head.0 body.0 body.1, low, high)
 
 pub sized_again : (n least most : ℕ) (text rest : List ℕ) → length text < 256 ^ n → least ≤ length text → length text ≤ most
     → sized_of n least most (sized n text ++ rest) ≡ Ok (text, rest)
 unfolding sized_of
 sized_again n least most text rest fits low high =
     let regrouped : sized n text ++ rest ≡ big_bytes n (length text) ++ (text ++ rest) = append_assoc (big_bytes n (length text)) text rest in
-    let long : nat_lt (length (text ++ rest)) (length text) ≡ false = le-ltb _ _ (omega (arith, length-append text rest)) in
-    let low_test : nat_le least (length text) ≡ true = le-leb _ _ low in
-    let high_test : nat_le (length text) most ≡ true = le-leb _ _ high in
-    ap (sized_of n least most) regrouped ∙ rw (number_again n (length text) (text ++ rest) fits, low_test, high_test, long, take_at text rest (length text) refl, drop_at text rest (length text) refl) refl
+    ap (sized_of n least most) regrouped
+    ∙ rw (size_again n least most (length text) (text ++ rest) fits low high) (bytes_again text rest)

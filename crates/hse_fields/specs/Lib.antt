@@ -6,4 +6,5 @@ pub mod LogReading
 pub mod FieldLaws
 pub mod ChangeLaws
 pub mod PayloadLaws
+pub mod FollowLaws
 pub mod WithinLaws

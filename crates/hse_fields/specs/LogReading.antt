@@ -1,6 +1,7 @@
 -- Reading the log's text from left to right. A field is a value and the bytes behind it. A refusal is the
 -- number of bytes that stand from the first refused field on, to the end of the payload.
-use Rattle.std.specs.Prelude.{◌≡◌, ℕ, zero, suc, ◌+◌, List, [], ◌∷◌, length, take, drop, Bool, true, Option, Some, None, Result, Ok, Err, nat_lt, nat_le, ◌==◌, ◌&&◌, if◌then◌else◌}
+use Rattle.std.specs.Prelude.{◌≡◌, ℕ, zero, suc, ◌+◌, List, [], ◌∷◌, length, take, drop, Bool, true, Option, Some, None, Result, Ok, Err, nat_lt, nat_le, ◌==◌, ◌&&◌, ◌||◌, if◌then◌else◌}
+use Rattle.std.specs.List.{AllByRecursion}
 use Rattle.byteorder.specs.Endian.{big_number}
 use Rattle.hse_fields.specs.LogText.{Kind, put, del, pdel, Change, Entry}
 use Rattle.hse_fields.specs.LogOrder.{may_follow, kind_may_follow, store_may_follow}
@@ -29,11 +30,17 @@ abbrev pub bytes_of : ℕ → List ℕ → Result (List ℕ × List ℕ) ℕ
 bytes_of n bytes =
     if nat_lt (length bytes) n then Err (length bytes) else Ok (take n bytes, drop n bytes)
 
--- Bytes behind their number. A number outside its limits is refused at itself.
-unfoldable pub sized_of : ℕ → ℕ → ℕ → List ℕ → Result (List ℕ × List ℕ) ℕ
-sized_of width least most bytes = do
+-- How many bytes follow. A number outside its limits is refused at itself.
+unfoldable pub size_of : ℕ → ℕ → ℕ → List ℕ → Result (ℕ × List ℕ) ℕ
+size_of width least most bytes = do
   size ← number_of width bytes
   within ← ensure (nat_le least size.0 && nat_le size.0 most) (length bytes)
+  Ok (size.0, size.1)
+
+-- bytes behind their number
+unfoldable pub sized_of : ℕ → ℕ → ℕ → List ℕ → Result (List ℕ × List ℕ) ℕ
+sized_of width least most bytes = do
+  size ← size_of width least most bytes
   bytes_of size.0 size.1
 
 abbrev pub kind_with : ℕ → Option Kind
@@ -56,34 +63,58 @@ value_of pdel most bytes = Ok ([], bytes)
 abbrev pub change : Kind → ℕ → List ℕ → List ℕ → Change
 change kind store name value = record { kind = kind; store = store; name = name; value = value }
 
+-- Whether a change may stand behind the last one whose name is so many of these bytes. A name that is cut
+-- off does not tell.
+unfoldable pub name_may_follow : Option Change → Kind → ℕ → ℕ → List ℕ → Bool
+name_may_follow last kind store size bytes =
+    nat_lt (length bytes) size || may_follow last (change kind store (take size bytes) [])
+
+-- Whether a name may have so many bytes, by which lengths the store's prefix deletes may have.
+abbrev pub name_fits : (ℕ → ℕ → Bool) → Kind → ℕ → ℕ → Bool
+name_fits prefix_fits put store size = true
+name_fits prefix_fits del store size = true
+name_fits prefix_fits pdel store size = prefix_fits store size
+
+-- A change's name behind its length, for a change with so many bytes from its first one on. One that may not
+-- stand behind the last one is refused at its first byte, also where its name shows it. A prefix whose length is not
+-- allowed for its store is refused at its length.
+unfoldable pub name_of : (ℕ → ℕ → Bool) → Option Change → ℕ → Kind → ℕ → List ℕ → Result (List ℕ × List ℕ) ℕ
+name_of prefix_fits last left kind store bytes = do
+  size ← size_of 2 1 (longest_name kind) bytes
+  in_order ← ensure (name_may_follow last kind store size.0 size.1) left
+  allowed ← ensure (name_fits prefix_fits kind store size.0) (length bytes)
+  bytes_of size.0 size.1
+
 -- A change that may not stand behind the last one is refused at its first byte, as soon as that shows.
-unfoldable pub change_of : ℕ → Option Change → List ℕ → Result (Change × List ℕ) ℕ
-change_of most last bytes = do
+unfoldable pub change_of : (ℕ → ℕ → Bool) → ℕ → Option Change → List ℕ → Result (Change × List ℕ) ℕ
+change_of prefix_fits most last bytes = do
   kind ← kind_of last bytes
   store ← number_of 8 kind.1
   store_in_order ← ensure (store_may_follow last kind.0 store.0) (length bytes)
-  name ← sized_of 2 1 (longest_name kind.0) store.1
-  in_order ← ensure (may_follow last (change kind.0 store.0 name.0 [])) (length bytes)
+  name ← name_of prefix_fits last (length bytes) kind.0 store.0 store.1
   value ← value_of kind.0 most name.1
   Ok (change kind.0 store.0 name.0 value.0, value.1)
 
 -- so many changes behind the last one
-unfoldable pub more_changes_of : ℕ → Option Change → ℕ → List ℕ → Result (List Change × List ℕ) ℕ
-more_changes_of most last zero bytes = Ok ([], bytes)
-more_changes_of most last (suc n) bytes = do
-  first ← change_of most last bytes
-  others ← more_changes_of most (Some first.0) n first.1
+unfoldable pub more_changes_of : (ℕ → ℕ → Bool) → ℕ → Option Change → ℕ → List ℕ → Result (List Change × List ℕ) ℕ
+more_changes_of prefix_fits most last zero bytes = Ok ([], bytes)
+more_changes_of prefix_fits most last (suc n) bytes = do
+  first ← change_of prefix_fits most last bytes
+  others ← more_changes_of prefix_fits most (Some first.0) n first.1
   Ok (first.0 ∷ others.0, others.1)
 
-unfoldable pub changes_of : ℕ → List ℕ → Result (List Change × List ℕ) ℕ
-changes_of most bytes = do
+unfoldable pub changes_of : (ℕ → ℕ → Bool) → ℕ → List ℕ → Result (List Change × List ℕ) ℕ
+changes_of prefix_fits most bytes = do
   count ← number_of 4 bytes
   some ← ensure (nat_lt 0 count.0) (length bytes)
-  more_changes_of most None count.0 count.1
+  more_changes_of prefix_fits most None count.0 count.1
 
--- What a reader of a log asks of the entries beside their form: which number may come next, and what is
--- known after an entry, if it may come. An entry that may not come is refused at its number.
+-- What a reader of a log asks of the entries beside their form: which length a store's prefix deletes may have,
+-- which number may come next, and what is known after an entry, if it may come. An entry that may not
+-- come is refused at its number.
 pub record Rule (S : Type 0) : Type 0 where
+  -- of a store and a length: true for stores that are not live
+  pub prefix_fits : ℕ → ℕ → Bool
   pub number_fits : S → ℕ → Bool
   pub after : S → Entry → Option S
 
@@ -91,7 +122,7 @@ unfoldable pub entry_of : {S : Type 0} → Rule S → ℕ → S → List ℕ →
 entry_of rule most state bytes = do
   number ← number_of 8 bytes
   next ← ensure (rule.number_fits state number.0) (length bytes)
-  changes ← changes_of most number.1
+  changes ← changes_of rule.prefix_fits most number.1
   after ← given (rule.after state (record { number = number.0; changes = changes.0 })) (length bytes)
   Ok ((record { number = number.0; changes = changes.0 }, after), changes.1)
 
@@ -113,7 +144,15 @@ payload_of rule most state bytes = do
 
 -- no rule but the form
 abbrev pub any : Rule (Unit {0})
-any = record { number_fits = λ _ _. true; after = λ _ _. Some tt }
+any = record { prefix_fits = λ _ _. true; number_fits = λ _ _. true; after = λ _ _. Some tt }
+
+-- The change is no prefix delete, or its prefix has a length that its store's may have.
+abbrev pub PrefixFits : (ℕ → ℕ → Bool) → Change → Type 0
+PrefixFits prefix_fits c = name_fits prefix_fits c.kind c.store (length c.name) ≡ true
+
+abbrev pub PrefixesFit : (ℕ → ℕ → Bool) → List Entry → Type 0
+PrefixesFit prefix_fits entries =
+    AllByRecursion (λ (e : Entry). AllByRecursion (PrefixFits prefix_fits) e.changes) entries
 
 -- These entries may come one after another, and this is known after them.
 abbrev pub Follow : {S : Type 0} → Rule S → S → List Entry → S → Type 0

@@ -1,5 +1,5 @@
 -- Entries and payloads that are read are those that were written, and what was written is read again.
-use Rattle.std.specs.Prelude.{◌≡◌, ℕ, zero, suc, ◌+◌, ◌^◌, ◌<◌, true, List, [], ◌∷◌, ◌++◌, length, Option, Some, None, Result, Ok, nat_lt, ◌==◌}
+use Rattle.std.specs.Prelude.{◌≡◌, ℕ, zero, suc, ◌+◌, ◌^◌, ◌<◌, Bool, true, List, [], ◌∷◌, ◌++◌, length, Option, Some, None, Result, Ok, nat_lt, ◌==◌}
 use Rattle.std.specs.List.{flat_map, AllByRecursion}
 use Rattle.std.proofs.Common.{refl, sym, ap, subst, ◌∙◌, append_assoc, arith, length-append}
 use Rattle.std.proofs.lemmas.Bool.{ltb-true, lt-ltb, eqb-true}
@@ -7,80 +7,91 @@ use Rattle.std.proofs.lemmas.List.{append-nil, nil_from_length}
 use Rattle.byteorder.specs.Endian.{big_bytes}
 use Rattle.hse_fields.specs.LogText.{Change, Entry, change_text, changes_text, entry_text, payload_text}
 use Rattle.hse_fields.specs.LogForm.{IsChange, AreInOrder, AreChanges, IsEntry, ArePayload}
-use Rattle.hse_fields.specs.LogReading.{◌>>=◌, ensure, given, number_of, change_of, more_changes_of, changes_of, Rule, entry_of, entries_of, payload_of, Follow}
+use Rattle.hse_fields.specs.LogReading.{◌>>=◌, ensure, given, number_of, change_of, more_changes_of, changes_of, Rule, entry_of, entries_of, payload_of, Follow, PrefixFits, PrefixesFit}
 use Rattle.hse_fields.specs.FieldLaws.{IsBytes, bind_ok, ensure_ok, given_ok, ok_is, Takes, Takes-then, width_4, width_8, number_takes, number_again}
 use Rattle.hse_fields.specs.ChangeLaws.{change_takes, change_again}
 
 -- ---- changes
 
 -- what a reading of changes behind the last one gives
-pub record TakesChanges (most : ℕ) (last : Option Change) (n : ℕ) (bytes : List ℕ) (x : List Change × List ℕ) : Type 0 where
+pub record TakesChanges (prefix_fits : ℕ → ℕ → Bool) (most : ℕ) (last : Option Change) (n : ℕ) (bytes : List ℕ) (x : List Change × List ℕ) : Type 0 where
   pub taken : Takes bytes (flat_map change_text x.0) x.1
   pub counted : length x.0 ≡ n
   pub formed : AllByRecursion (IsChange most) x.0
   pub in_order : AreInOrder last x.0
+  pub fits : AllByRecursion (PrefixFits prefix_fits) x.0
 
-abbrev others_of : ℕ → ℕ → Change × List ℕ → Result (List Change × List ℕ) ℕ
-others_of most n first = more_changes_of most (Some first.0) n first.1 >>= λ others. Ok (first.0 ∷ others.0, others.1)
+abbrev others_of : (ℕ → ℕ → Bool) → ℕ → ℕ → Change × List ℕ → Result (List Change × List ℕ) ℕ
+others_of prefix_fits most n first = more_changes_of prefix_fits most (Some first.0) n first.1 >>= λ others. Ok (first.0 ∷ others.0, others.1)
 
-pub more_changes_take : (most : ℕ) (last : Option Change) (n : ℕ) (bytes : List ℕ) (x : List Change × List ℕ) → IsBytes bytes
-    → more_changes_of most last n bytes ≡ Ok x → TakesChanges most last n bytes x
+pub more_changes_take : (prefix_fits : ℕ → ℕ → Bool) (most : ℕ) (last : Option Change) (n : ℕ) (bytes : List ℕ) (x : List Change × List ℕ) → IsBytes bytes
+    → more_changes_of prefix_fits most last n bytes ≡ Ok x → TakesChanges prefix_fits most last n bytes x
 unfolding more_changes_of
-more_changes_take most last zero bytes x fits e =
-    subst (TakesChanges most last 0 bytes) (ok_is ([], bytes) x e)
-    (record { taken = record { parts = refl; rest_fits = fits }; counted = refl; formed = tt; in_order = tt })
-more_changes_take most last (suc n) bytes x fits e =
-    let a = bind_ok (change_of most last bytes) (others_of most n) x e in
-    let b = bind_ok (more_changes_of most (Some a.0.0) n a.0.1) (λ others. Ok (a.0.0 ∷ others.0, others.1)) x a.2 in
-    let first = change_takes most last bytes a.0 fits a.1 in
-    let others = more_changes_take most (Some a.0.0) n a.0.1 b.0 first.0.rest_fits b.1 in
-    subst (TakesChanges most last (suc n) bytes) (ok_is (a.0.0 ∷ b.0.0, b.0.1) x b.2)
+more_changes_take prefix_fits most last zero bytes x small e =
+    subst (TakesChanges prefix_fits most last 0 bytes) (ok_is ([], bytes) x e)
+    (record { taken = record { parts = refl; rest_fits = small }; counted = refl; formed = tt; in_order = tt; fits = tt })
+more_changes_take prefix_fits most last (suc n) bytes x small e =
+    let a = bind_ok (change_of prefix_fits most last bytes) (others_of prefix_fits most n) x e in
+    let b = bind_ok (more_changes_of prefix_fits most (Some a.0.0) n a.0.1) (λ others. Ok (a.0.0 ∷ others.0, others.1)) x a.2 in
+    let first = change_takes prefix_fits most last bytes a.0 small a.1 in
+    let others = more_changes_take prefix_fits most (Some a.0.0) n a.0.1 b.0 first.taken.rest_fits b.1 in
+    subst (TakesChanges prefix_fits most last (suc n) bytes) (ok_is (a.0.0 ∷ b.0.0, b.0.1) x b.2)
     (record {
-      taken = Takes-then bytes (change_text a.0.0) a.0.1 (flat_map change_text b.0.0) b.0.1 first.0 others.taken;
+      taken = Takes-then bytes (change_text a.0.0) a.0.1 (flat_map change_text b.0.0) b.0.1 first.taken others.taken;
       counted = ap suc others.counted;
-      formed = (first.1, others.formed);
-      in_order = (first.2, others.in_order);
+      formed = (first.formed, others.formed);
+      in_order = (first.in_order, others.in_order);
+      fits = (first.fits, others.fits);
     })
 
-more_changes_again : (most : ℕ) (last : Option Change) (cs : List Change) (rest : List ℕ) → most < 2 ^ 32 → AllByRecursion (IsChange most) cs
-    → AreInOrder last cs → more_changes_of most last (length cs) (flat_map change_text cs ++ rest) ≡ Ok (cs, rest)
+more_changes_again : (prefix_fits : ℕ → ℕ → Bool) (most : ℕ) (last : Option Change) (cs : List Change) (rest : List ℕ) → most < 2 ^ 32
+    → AllByRecursion (IsChange most) cs → AreInOrder last cs → AllByRecursion (PrefixFits prefix_fits) cs
+    → more_changes_of prefix_fits most last (length cs) (flat_map change_text cs ++ rest) ≡ Ok (cs, rest)
 unfolding more_changes_of
-more_changes_again most last [] rest small formed in_order = refl
-more_changes_again most last (c ∷ cs) rest small formed in_order =
+more_changes_again prefix_fits most last [] rest small formed in_order fits = refl
+more_changes_again prefix_fits most last (c ∷ cs) rest small formed in_order fits =
     let regrouped : flat_map change_text (c ∷ cs) ++ rest ≡ change_text c ++ (flat_map change_text cs ++ rest) =
     append_assoc (change_text c) (flat_map change_text cs) rest in
-    ap (more_changes_of most last (suc (length cs))) regrouped
+    ap (more_changes_of prefix_fits most last (suc (length cs))) regrouped
     ∙ rw (
-      change_again most last c (flat_map change_text cs ++ rest) small formed.0 in_order.0,
-      more_changes_again most (Some c) cs rest small formed.1 in_order.1,
+      change_again prefix_fits most last c (flat_map change_text cs ++ rest) small formed.0 in_order.0 fits.0,
+      more_changes_again prefix_fits most (Some c) cs rest small formed.1 in_order.1 fits.1,
     ) refl
 
-pub changes_take : (most : ℕ) (bytes : List ℕ) (x : List Change × List ℕ) → IsBytes bytes → changes_of most bytes ≡ Ok x
-    → Takes bytes (changes_text x.0) x.1 × AreChanges most x.0
-unfolding changes_of
-changes_take most bytes x fits e =
-    let a = bind_ok (number_of 4 bytes) (λ count. ensure (nat_lt 0 count.0) (length bytes) >>= λ some. more_changes_of most None count.0 count.1) x e in
-    let b = bind_ok (ensure (nat_lt 0 a.0.0) (length bytes)) (λ some. more_changes_of most None a.0.0 a.0.1) x a.2 in
-    let some : 0 < a.0.0 = ltb-true _ _ (ensure_ok _ _ _ b.1) in
-    let count = number_takes 4 width_4 bytes a.0.0 a.0.1 fits a.1 in
-    let read = more_changes_take most None a.0.0 a.0.1 x count.0.rest_fits b.2 in
-    let head : Takes bytes (big_bytes 4 (length x.0)) a.0.1 = subst (λ (k : ℕ). Takes bytes (big_bytes 4 k) a.0.1) (sym read.counted) count.0 in (
-      Takes-then bytes (big_bytes 4 (length x.0)) a.0.1 (flat_map change_text x.0) x.1 head read.taken,
-      record { some = omega (arith, some, read.counted); counted = omega (arith, count.1, read.counted); formed = read.formed; in_order = read.in_order },
-    )
+-- what a reading of a commit's changes gives
+pub record TakesAllChanges (prefix_fits : ℕ → ℕ → Bool) (most : ℕ) (bytes : List ℕ) (x : List Change × List ℕ) : Type 0 where
+  pub taken : Takes bytes (changes_text x.0) x.1
+  pub formed : AreChanges most x.0
+  pub fits : AllByRecursion (PrefixFits prefix_fits) x.0
 
-pub changes_again : (most : ℕ) (cs : List Change) (rest : List ℕ) → most < 2 ^ 32 → AreChanges most cs
-    → changes_of most (changes_text cs ++ rest) ≡ Ok (cs, rest)
+pub changes_take : (prefix_fits : ℕ → ℕ → Bool) (most : ℕ) (bytes : List ℕ) (x : List Change × List ℕ) → IsBytes bytes
+    → changes_of prefix_fits most bytes ≡ Ok x → TakesAllChanges prefix_fits most bytes x
 unfolding changes_of
-changes_again most cs rest small fits =
+changes_take prefix_fits most bytes x small e =
+    let a = bind_ok (number_of 4 bytes) (λ count. ensure (nat_lt 0 count.0) (length bytes) >>= λ some. more_changes_of prefix_fits most None count.0 count.1) x e in
+    let b = bind_ok (ensure (nat_lt 0 a.0.0) (length bytes)) (λ some. more_changes_of prefix_fits most None a.0.0 a.0.1) x a.2 in
+    let some : 0 < a.0.0 = ltb-true _ _ (ensure_ok _ _ _ b.1) in
+    let count = number_takes 4 width_4 bytes a.0.0 a.0.1 small a.1 in
+    let read = more_changes_take prefix_fits most None a.0.0 a.0.1 x count.0.rest_fits b.2 in
+    let head : Takes bytes (big_bytes 4 (length x.0)) a.0.1 = subst (λ (k : ℕ). Takes bytes (big_bytes 4 k) a.0.1) (sym read.counted) count.0 in
+    record {
+      taken = Takes-then bytes (big_bytes 4 (length x.0)) a.0.1 (flat_map change_text x.0) x.1 head read.taken;
+      formed = record { some = omega (arith, some, read.counted); counted = omega (arith, count.1, read.counted); formed = read.formed; in_order = read.in_order };
+      fits = read.fits;
+    }
+
+pub changes_again : (prefix_fits : ℕ → ℕ → Bool) (most : ℕ) (cs : List Change) (rest : List ℕ) → most < 2 ^ 32 → AreChanges most cs
+    → AllByRecursion (PrefixFits prefix_fits) cs → changes_of prefix_fits most (changes_text cs ++ rest) ≡ Ok (cs, rest)
+unfolding changes_of
+changes_again prefix_fits most cs rest small formed fits =
     let regrouped : changes_text cs ++ rest ≡ big_bytes 4 (length cs) ++ (flat_map change_text cs ++ rest) =
     append_assoc (big_bytes 4 (length cs)) (flat_map change_text cs) rest in
-    let some : nat_lt 0 (length cs) ≡ true = lt-ltb _ _ (omega (arith, fits.some)) in
-    ap (changes_of most) regrouped
+    let some : nat_lt 0 (length cs) ≡ true = lt-ltb _ _ (omega (arith, formed.some)) in
+    ap (changes_of prefix_fits most) regrouped
     ∙ rw (
-      number_again 4 (length cs) (flat_map change_text cs ++ rest) (omega (arith, fits.counted)),
+      number_again 4 (length cs) (flat_map change_text cs ++ rest) (omega (arith, formed.counted)),
       some,
-      more_changes_again most None cs rest small fits.formed fits.in_order,
+      more_changes_again prefix_fits most None cs rest small formed.formed formed.in_order fits,
     ) refl
 
 -- ---- entries
@@ -91,17 +102,18 @@ record TakesEntry {S : Type 0} (rule : Rule S) (most : ℕ) (state : S) (bytes :
   formed : IsEntry most x.0.0
   next : rule.number_fits state x.0.0.number ≡ true
   after : rule.after state x.0.0 ≡ Some x.0.1
+  fits : AllByRecursion (PrefixFits rule.prefix_fits) x.0.0.changes
 
-abbrev entry : ℕ → List Change → Entry
+abbrev pub entry : ℕ → List Change → Entry
 entry number changes = record { number = number; changes = changes }
 
-abbrev from_changes : {S : Type 0} → Rule S → S → List ℕ → ℕ → List Change × List ℕ → Result ((Entry × S) × List ℕ) ℕ
+abbrev pub from_changes : {S : Type 0} → Rule S → S → List ℕ → ℕ → List Change × List ℕ → Result ((Entry × S) × List ℕ) ℕ
 from_changes rule state bytes number changes =
     given (rule.after state (entry number changes.0)) (length bytes) >>= λ after. Ok ((entry number changes.0, after), changes.1)
 
-abbrev from_number : {S : Type 0} → Rule S → ℕ → S → List ℕ → ℕ × List ℕ → Result ((Entry × S) × List ℕ) ℕ
+abbrev pub from_number : {S : Type 0} → Rule S → ℕ → S → List ℕ → ℕ × List ℕ → Result ((Entry × S) × List ℕ) ℕ
 from_number rule most state bytes number =
-    ensure (rule.number_fits state number.0) (length bytes) >>= λ next. (changes_of most number.1 >>= from_changes rule state bytes number.0)
+    ensure (rule.number_fits state number.0) (length bytes) >>= λ next. (changes_of rule.prefix_fits most number.1 >>= from_changes rule state bytes number.0)
 
 entry_takes : {S : Type 0} (rule : Rule S) (most : ℕ) (state : S) (bytes : List ℕ) (x : (Entry × S) × List ℕ) → IsBytes bytes
     → entry_of rule most state bytes ≡ Ok x → TakesEntry rule most state bytes x
@@ -109,33 +121,34 @@ unfolding entry_of
 entry_takes {S} rule most state bytes x fits e =
     let a = bind_ok (number_of 8 bytes) (from_number rule most state bytes) x e in
     let number = a.0.0 in
-    let b = bind_ok (ensure (rule.number_fits state number) (length bytes)) (λ next. changes_of most a.0.1 >>= from_changes rule state bytes number) x a.2 in
-    let c = bind_ok (changes_of most a.0.1) (from_changes rule state bytes number) x b.2 in
+    let b = bind_ok (ensure (rule.number_fits state number) (length bytes)) (λ next. changes_of rule.prefix_fits most a.0.1 >>= from_changes rule state bytes number) x a.2 in
+    let c = bind_ok (changes_of rule.prefix_fits most a.0.1) (from_changes rule state bytes number) x b.2 in
     let made = entry number c.0.0 in
     let d = bind_ok (given (rule.after state made) (length bytes)) (λ after. Ok ((made, after), c.0.1)) x c.2 in
     let head = number_takes 8 width_8 bytes number a.0.1 fits a.1 in
-    let read = changes_take most a.0.1 c.0 head.0.rest_fits c.1 in
+    let read = changes_take rule.prefix_fits most a.0.1 c.0 head.0.rest_fits c.1 in
     subst (TakesEntry rule most state bytes) (ok_is ((made, d.0), c.0.1) x d.2)
     (record {
-      taken = Takes-then bytes (big_bytes 8 number) a.0.1 (changes_text c.0.0) c.0.1 head.0 read.0;
-      formed = record { number = omega (arith, head.1); changes = read.1 };
+      taken = Takes-then bytes (big_bytes 8 number) a.0.1 (changes_text c.0.0) c.0.1 head.0 read.taken;
+      formed = record { number = omega (arith, head.1); changes = read.formed };
       next = ensure_ok _ _ _ b.1;
       after = given_ok _ _ _ d.1;
+      fits = read.fits;
     })
 
 entry_again : {S : Type 0} (rule : Rule S) (most : ℕ) (state after : S) (e : Entry) (rest : List ℕ) → most < 2 ^ 32 → IsEntry most e
-    → rule.number_fits state e.number ≡ true → rule.after state e ≡ Some after
+    → rule.number_fits state e.number ≡ true → rule.after state e ≡ Some after → AllByRecursion (PrefixFits rule.prefix_fits) e.changes
     → entry_of rule most state (entry_text e ++ rest) ≡ Ok ((e, after), rest)
 unfolding entry_of
-entry_again rule most state after e rest small fits next follows =
+entry_again rule most state after e rest small formed next follows fits =
     let regrouped : entry_text e ++ rest ≡ big_bytes 8 e.number ++ (changes_text e.changes ++ rest) =
     append_assoc (big_bytes 8 e.number) (changes_text e.changes) rest in
     let is : rule.after state (entry e.number e.changes) ≡ Some after = follows in
     ap (entry_of rule most state) regrouped
     ∙ rw (
-      number_again 8 e.number (changes_text e.changes ++ rest) (omega (arith, fits.number)),
+      number_again 8 e.number (changes_text e.changes ++ rest) (omega (arith, formed.number)),
       next,
-      changes_again most e.changes rest small fits.changes,
+      changes_again rule.prefix_fits most e.changes rest small formed.changes fits,
       is,
     ) refl
 
@@ -144,8 +157,9 @@ record TakesEntries {S : Type 0} (rule : Rule S) (most : ℕ) (state : S) (n : �
   counted : length x.0.0 ≡ n
   formed : AllByRecursion (IsEntry most) x.0.0
   follow : Follow rule state x.0.0 x.0.1
+  fits : PrefixesFit rule.prefix_fits x.0.0
 
-abbrev other_entries_of : {S : Type 0} → Rule S → ℕ → ℕ → (Entry × S) × List ℕ → Result ((List Entry × S) × List ℕ) ℕ
+abbrev pub other_entries_of : {S : Type 0} → Rule S → ℕ → ℕ → (Entry × S) × List ℕ → Result ((List Entry × S) × List ℕ) ℕ
 other_entries_of rule most n first =
     entries_of rule most first.0.1 n first.1 >>= λ others. Ok ((first.0.0 ∷ others.0.0, others.0.1), others.1)
 
@@ -154,7 +168,7 @@ entries_take : {S : Type 0} (rule : Rule S) (most : ℕ) (state : S) (n : ℕ) (
 unfolding entries_of
 entries_take {S} rule most state zero bytes x fits e =
     subst (TakesEntries rule most state 0 bytes) (ok_is (([], state), bytes) x e)
-    (record { taken = record { parts = refl; rest_fits = fits }; counted = refl; formed = tt; follow = refl })
+    (record { taken = record { parts = refl; rest_fits = fits }; counted = refl; formed = tt; follow = refl; fits = tt })
 entries_take {S} rule most state (suc n) bytes x fits e =
     let a = bind_ok (entry_of rule most state bytes) (other_entries_of rule most n) x e in
     let b = bind_ok (entries_of rule most a.0.0.1 n a.0.1) (λ others. Ok ((a.0.0.0 ∷ others.0.0, others.0.1), others.1)) x a.2 in
@@ -166,30 +180,31 @@ entries_take {S} rule most state (suc n) bytes x fits e =
       counted = ap suc others.counted;
       formed = (first.formed, others.formed);
       follow = (first.next, a.0.0.1, first.after, others.follow);
+      fits = (first.fits, others.fits);
     })
 
 entries_again : {S : Type 0} (rule : Rule S) (most : ℕ) (state last : S) (es : List Entry) (rest : List ℕ) → most < 2 ^ 32
-    → AllByRecursion (IsEntry most) es → Follow rule state es last
+    → AllByRecursion (IsEntry most) es → Follow rule state es last → PrefixesFit rule.prefix_fits es
     → entries_of rule most state (length es) (flat_map entry_text es ++ rest) ≡ Ok ((es, last), rest)
 unfolding entries_of
-entries_again rule most state last [] rest small formed follow = ap (λ s. Ok (([], s), rest)) follow
-entries_again rule most state last (e ∷ es) rest small formed follow =
+entries_again rule most state last [] rest small formed follow fits = ap (λ s. Ok (([], s), rest)) follow
+entries_again rule most state last (e ∷ es) rest small formed follow fits =
     let regrouped : flat_map entry_text (e ∷ es) ++ rest ≡ entry_text e ++ (flat_map entry_text es ++ rest) =
     append_assoc (entry_text e) (flat_map entry_text es) rest in
     ap (entries_of rule most state (suc (length es))) regrouped
     ∙ rw (
-      entry_again rule most state follow.1 e (flat_map entry_text es ++ rest) small formed.0 follow.0 follow.2,
-      entries_again rule most follow.1 last es rest small formed.1 follow.3,
+      entry_again rule most state follow.1 e (flat_map entry_text es ++ rest) small formed.0 follow.0 follow.2 fits.0,
+      entries_again rule most follow.1 last es rest small formed.1 follow.3 fits.1,
     ) refl
 
 -- ---- payloads
 
-abbrev ended_of : {S : Type 0} → List ℕ → (List Entry × S) × List ℕ → Result (List Entry × S) ℕ
+abbrev pub ended_of : {S : Type 0} → List ℕ → (List Entry × S) × List ℕ → Result (List Entry × S) ℕ
 ended_of bytes read = ensure (length read.1 == 0) (4 + length bytes) >>= λ ended. Ok read.0
 
--- What is read is spelled so, and its entries may come one after another.
+-- What is read is spelled so, its entries may come one after another, and its prefix deletes fit.
 pub payload_takes : {S : Type 0} (rule : Rule S) (most : ℕ) (state : S) (bytes : List ℕ) (x : List Entry × S) → IsBytes bytes
-    → payload_of rule most state bytes ≡ Ok x → (bytes ≡ payload_text x.0) × ArePayload most x.0 × Follow rule state x.0 x.1
+    → payload_of rule most state bytes ≡ Ok x → (bytes ≡ payload_text x.0) × ArePayload most x.0 × Follow rule state x.0 x.1 × PrefixesFit rule.prefix_fits x.0
 unfolding payload_of
 payload_takes {S} rule most state bytes x fits e =
     let a = bind_ok (number_of 4 bytes) (λ count. ensure (nat_lt 0 count.0) (length bytes) >>= λ some. (entries_of rule most state count.0 count.1 >>= ended_of bytes)) x e in
@@ -205,26 +220,26 @@ payload_takes {S} rule most state bytes x fits e =
     let all = Takes-then bytes (big_bytes 4 (length es)) a.0.1 (flat_map entry_text es) c.0.1 head read.taken in
     let spelled : bytes ≡ payload_text es = all.parts ∙ ap (λ (l : List ℕ). payload_text es ++ l) ended ∙ append-nil (payload_text es) in
     let formed : ArePayload most es = record { some = omega (arith, some, read.counted); counted = omega (arith, count.1, read.counted); formed = read.formed } in
-    subst (λ (y : List Entry × S). (bytes ≡ payload_text y.0) × ArePayload most y.0 × Follow rule state y.0 y.1) (ok_is c.0.0 x d.2)
-    (spelled, formed, read.follow)
+    subst (λ (y : List Entry × S). (bytes ≡ payload_text y.0) × ArePayload most y.0 × Follow rule state y.0 y.1 × PrefixesFit rule.prefix_fits y.0) (ok_is c.0.0 x d.2)
+    (spelled, formed, read.follow, read.fits)
 
 -- What is spelled so is read.
 pub payload_again : {S : Type 0} (rule : Rule S) (most : ℕ) (state last : S) (es : List Entry) → most < 2 ^ 32 → ArePayload most es
-    → Follow rule state es last → payload_of rule most state (payload_text es) ≡ Ok (es, last)
+    → Follow rule state es last → PrefixesFit rule.prefix_fits es → payload_of rule most state (payload_text es) ≡ Ok (es, last)
 unfolding payload_of
-payload_again rule most state last es small fits follow =
-    let some : nat_lt 0 (length es) ≡ true = lt-ltb _ _ (omega (arith, fits.some)) in
+payload_again rule most state last es small formed follow fits =
+    let some : nat_lt 0 (length es) ≡ true = lt-ltb _ _ (omega (arith, formed.some)) in
     let text : flat_map entry_text es ≡ flat_map entry_text es ++ [] = sym (append-nil (flat_map entry_text es)) in
     let read : entries_of rule most state (length es) (flat_map entry_text es) ≡ Ok ((es, last), []) =
-    ap (entries_of rule most state (length es)) text ∙ entries_again rule most state last es [] small fits.formed follow in
-    rw (number_again 4 (length es) (flat_map entry_text es) (omega (arith, fits.counted)), some, read) refl
+    ap (entries_of rule most state (length es)) text ∙ entries_again rule most state last es [] small formed.formed follow fits in
+    rw (number_again 4 (length es) (flat_map entry_text es) (omega (arith, formed.counted)), some, read) refl
 
 -- An entry is as long as what a reading of it takes.
-pub entry_length : (most : ℕ) (bytes : List ℕ) (number : ℕ) (behind : List ℕ) (changes : List Change) (rest : List ℕ) → IsBytes bytes
-    → number_of 8 bytes ≡ Ok (number, behind) → changes_of most behind ≡ Ok (changes, rest)
+pub entry_length : (prefix_fits : ℕ → ℕ → Bool) (most : ℕ) (bytes : List ℕ) (number : ℕ) (behind : List ℕ) (changes : List Change) (rest : List ℕ) → IsBytes bytes
+    → number_of 8 bytes ≡ Ok (number, behind) → changes_of prefix_fits most behind ≡ Ok (changes, rest)
     → length bytes ≡ length (entry_text (record { number = number; changes = changes })) + length rest
-entry_length most bytes number behind changes rest small first second =
+entry_length prefix_fits most bytes number behind changes rest small first second =
     let head = number_takes 8 width_8 bytes number behind small first in
-    let body = changes_take most behind (changes, rest) head.0.rest_fits second in
-    let all = Takes-then bytes (big_bytes 8 number) behind (changes_text changes) rest head.0 body.0 in
+    let body = changes_take prefix_fits most behind (changes, rest) head.0.rest_fits second in
+    let all = Takes-then bytes (big_bytes 8 number) behind (changes_text changes) rest head.0 body.taken in
     ap length all.parts ∙ length-append (big_bytes 8 number ++ changes_text changes) rest

@@ -1,12 +1,13 @@
 -- A refused field lies in what was read, and what is left is a part of it.
-use Rattle.std.specs.Prelude.{◌≡◌, ℕ, zero, suc, ◌+◌, ◌≤◌, Bool, true, false, List, [], ◌∷◌, length, take, drop, Option, Some, None, Result, Ok, Err, nat_lt, nat_le, ◌==◌, ◌&&◌}
+use Rattle.std.specs.Prelude.{◌≡◌, ℕ, zero, suc, ◌+◌, ◌≤◌, Bool, true, false, List, ◌∷◌, length, take, drop, Option, Some, None, Result, Ok, Err, nat_lt, nat_le, ◌==◌, ◌&&◌}
 use Rattle.std.proofs.Common.{arith, cond}
 use Rattle.std.proofs.lemmas.List.{length-drop}
 use Rattle.byteorder.specs.Endian.{big_number}
 use Rattle.hse_fields.specs.LogText.{Kind, put, del, pdel, Change, Entry}
-use Rattle.hse_fields.specs.LogOrder.{may_follow, kind_may_follow, store_may_follow}
+use Rattle.hse_fields.specs.LogOrder.{kind_may_follow, store_may_follow}
 use Rattle.hse_fields.specs.LogForm.{longest_name}
-use Rattle.hse_fields.specs.LogReading.{◌>>=◌, ensure, given, number_of, bytes_of, sized_of, kind_with, kind_of, value_of, change, change_of, more_changes_of, changes_of, Rule, entry_of, entries_of, payload_of}
+use Rattle.hse_fields.specs.LogReading.{◌>>=◌, ensure, given, number_of, bytes_of, size_of, sized_of, kind_with, kind_of, value_of, name_may_follow, name_fits, name_of, change_of, more_changes_of, changes_of, Rule, entry_of, entries_of, payload_of}
+use Rattle.hse_fields.specs.ChangeLaws.{from_value, from_name, from_order, from_size, from_store, from_kind}
 
 -- a reading of at most so many bytes
 abbrev pub Within : {A : Type 0} → ℕ → Result (A × List ℕ) ℕ → Type 0
@@ -42,12 +43,18 @@ number_within m n bytes le = wider (length bytes) n (number_of m bytes) le (cut 
 bytes_within : (m n : ℕ) (bytes : List ℕ) → length bytes ≤ n → Within n (bytes_of m bytes)
 bytes_within m n bytes le = wider (length bytes) n (bytes_of m bytes) le (cut (nat_lt (length bytes) m) bytes (take m bytes) m)
 
+size_within : (width least most n : ℕ) (bytes : List ℕ) → length bytes ≤ n → Within n (size_of width least most bytes)
+unfolding size_of
+size_within width least most n bytes le =
+    then n (number_of width bytes) (λ size. ensure (nat_le least size.0 && nat_le size.0 most) (length bytes) >>= λ within. Ok (size.0, size.1))
+    (number_within width n bytes le)
+    (λ size h. ensured n (length bytes) (nat_le least size.0 && nat_le size.0 most) (λ within. Ok (size.0, size.1)) le h)
+
 sized_within : (width least most n : ℕ) (bytes : List ℕ) → length bytes ≤ n → Within n (sized_of width least most bytes)
 unfolding sized_of
 sized_within width least most n bytes le =
-    then n (number_of width bytes) (λ size. ensure (nat_le least size.0 && nat_le size.0 most) (length bytes) >>= λ within. bytes_of size.0 size.1)
-    (number_within width n bytes le)
-    (λ size fits. ensured n (length bytes) (nat_le least size.0 && nat_le size.0 most) (λ within. bytes_of size.0 size.1) le (bytes_within size.0 n size.1 fits))
+    then n (size_of width least most bytes) (λ size. bytes_of size.0 size.1) (size_within width least most n bytes le)
+    (λ size h. bytes_within size.0 n size.1 h)
 
 kind_within : (last : Option Change) (n : ℕ) (bytes : List ℕ) → length bytes ≤ n → Within n (kind_of last bytes)
 unfolding kind_of
@@ -63,34 +70,44 @@ value_within put most n bytes le = sized_within 4 0 most n bytes le
 value_within del most n bytes le = le
 value_within pdel most n bytes le = le
 
-pub change_within : (most : ℕ) (last : Option Change) (n : ℕ) (bytes : List ℕ) → length bytes ≤ n → Within n (change_of most last bytes)
+name_within : (prefix_fits : ℕ → ℕ → Bool) (last : Option Change) (left : ℕ) (kind : Kind) (store n : ℕ) (bytes : List ℕ) → left ≤ n → length bytes ≤ n
+    → Within n (name_of prefix_fits last left kind store bytes)
+unfolding name_of
+name_within prefix_fits last left kind store n bytes le h =
+    then n (size_of 2 1 (longest_name kind) bytes) (from_size prefix_fits last left kind store bytes) (size_within 2 1 (longest_name kind) n bytes h)
+    (λ size i. ensured n left (name_may_follow last kind store size.0 size.1) (λ in_order. from_order prefix_fits bytes kind store size) le
+    (ensured n (length bytes) (name_fits prefix_fits kind store size.0) (λ allowed. bytes_of size.0 size.1) h (bytes_within size.0 n size.1 i)))
+
+-- from behind a change's store on
+store_within : (prefix_fits : ℕ → ℕ → Bool) (most : ℕ) (last : Option Change) (n : ℕ) (bytes : List ℕ) (kind : Kind) (store : ℕ × List ℕ)
+    → length bytes ≤ n → length store.1 ≤ n → Within n (from_store prefix_fits most last bytes kind store)
+store_within prefix_fits most last n bytes kind store le h =
+    ensured n (length bytes) (store_may_follow last kind store.0) (λ in_order. name_of prefix_fits last (length bytes) kind store.0 store.1 >>= from_name most kind store.0) le
+    (then n (name_of prefix_fits last (length bytes) kind store.0 store.1) (from_name most kind store.0) (name_within prefix_fits last (length bytes) kind store.0 n store.1 le h)
+    (λ name i. then n (value_of kind most name.1) (from_value kind store.0 name.0) (value_within kind most n name.1 i) (λ value j. j)))
+
+pub change_within : (prefix_fits : ℕ → ℕ → Bool) (most : ℕ) (last : Option Change) (n : ℕ) (bytes : List ℕ) → length bytes ≤ n → Within n (change_of prefix_fits most last bytes)
 unfolding change_of
-change_within most last n bytes le =
-    then n (kind_of last bytes) (λ kind. number_of 8 kind.1 >>= λ store. (ensure (store_may_follow last kind.0 store.0) (length bytes) >>= λ store_in_order. (sized_of 2 1 (longest_name kind.0) store.1 >>= λ name. (ensure (may_follow last (change kind.0 store.0 name.0 [])) (length bytes) >>= λ in_order. (value_of kind.0 most name.1 >>= λ value. Ok (change kind.0 store.0 name.0 value.0, value.1))))))
-    (kind_within last n bytes le)
-    (λ kind h. then n (number_of 8 kind.1) (λ store. ensure (store_may_follow last kind.0 store.0) (length bytes) >>= λ store_in_order. (sized_of 2 1 (longest_name kind.0) store.1 >>= λ name. (ensure (may_follow last (change kind.0 store.0 name.0 [])) (length bytes) >>= λ in_order. (value_of kind.0 most name.1 >>= λ value. Ok (change kind.0 store.0 name.0 value.0, value.1)))))
-    (number_within 8 n kind.1 h)
-    (λ store i. ensured n (length bytes) (store_may_follow last kind.0 store.0) (λ store_in_order. sized_of 2 1 (longest_name kind.0) store.1 >>= λ name. (ensure (may_follow last (change kind.0 store.0 name.0 [])) (length bytes) >>= λ in_order. (value_of kind.0 most name.1 >>= λ value. Ok (change kind.0 store.0 name.0 value.0, value.1)))) le
-    (then n (sized_of 2 1 (longest_name kind.0) store.1) (λ name. ensure (may_follow last (change kind.0 store.0 name.0 [])) (length bytes) >>= λ in_order. (value_of kind.0 most name.1 >>= λ value. Ok (change kind.0 store.0 name.0 value.0, value.1)))
-    (sized_within 2 1 (longest_name kind.0) n store.1 i)
-    (λ name j. ensured n (length bytes) (may_follow last (change kind.0 store.0 name.0 [])) (λ in_order. value_of kind.0 most name.1 >>= λ value. Ok (change kind.0 store.0 name.0 value.0, value.1)) le
-    (then n (value_of kind.0 most name.1) (λ value. Ok (change kind.0 store.0 name.0 value.0, value.1)) (value_within kind.0 most n name.1 j) (λ value k. k))))))
+change_within prefix_fits most last n bytes le =
+    then n (kind_of last bytes) (from_kind prefix_fits most last bytes) (kind_within last n bytes le)
+    (λ kind h. then n (number_of 8 kind.1) (from_store prefix_fits most last bytes kind.0) (number_within 8 n kind.1 h)
+    (λ store i. store_within prefix_fits most last n bytes kind.0 store le i))
 
-more_changes_within : (most : ℕ) (last : Option Change) (count n : ℕ) (bytes : List ℕ) → length bytes ≤ n → Within n (more_changes_of most last count bytes)
+more_changes_within : (prefix_fits : ℕ → ℕ → Bool) (most : ℕ) (last : Option Change) (count n : ℕ) (bytes : List ℕ) → length bytes ≤ n → Within n (more_changes_of prefix_fits most last count bytes)
 unfolding more_changes_of
-more_changes_within most last zero n bytes le = le
-more_changes_within most last (suc count) n bytes le =
-    then n (change_of most last bytes) (λ first. more_changes_of most (Some first.0) count first.1 >>= λ others. Ok (first.0 ∷ others.0, others.1))
-    (change_within most last n bytes le)
-    (λ first h. then n (more_changes_of most (Some first.0) count first.1) (λ others. Ok (first.0 ∷ others.0, others.1))
-    (more_changes_within most (Some first.0) count n first.1 h) (λ others k. k))
+more_changes_within prefix_fits most last zero n bytes le = le
+more_changes_within prefix_fits most last (suc count) n bytes le =
+    then n (change_of prefix_fits most last bytes) (λ first. more_changes_of prefix_fits most (Some first.0) count first.1 >>= λ others. Ok (first.0 ∷ others.0, others.1))
+    (change_within prefix_fits most last n bytes le)
+    (λ first h. then n (more_changes_of prefix_fits most (Some first.0) count first.1) (λ others. Ok (first.0 ∷ others.0, others.1))
+    (more_changes_within prefix_fits most (Some first.0) count n first.1 h) (λ others k. k))
 
-pub changes_within : (most n : ℕ) (bytes : List ℕ) → length bytes ≤ n → Within n (changes_of most bytes)
+pub changes_within : (prefix_fits : ℕ → ℕ → Bool) (most n : ℕ) (bytes : List ℕ) → length bytes ≤ n → Within n (changes_of prefix_fits most bytes)
 unfolding changes_of
-changes_within most n bytes le =
-    then n (number_of 4 bytes) (λ count. ensure (nat_lt 0 count.0) (length bytes) >>= λ some. more_changes_of most None count.0 count.1)
+changes_within prefix_fits most n bytes le =
+    then n (number_of 4 bytes) (λ count. ensure (nat_lt 0 count.0) (length bytes) >>= λ some. more_changes_of prefix_fits most None count.0 count.1)
     (number_within 4 n bytes le)
-    (λ count h. ensured n (length bytes) (nat_lt 0 count.0) (λ some. more_changes_of most None count.0 count.1) le (more_changes_within most None count.0 n count.1 h))
+    (λ count h. ensured n (length bytes) (nat_lt 0 count.0) (λ some. more_changes_of prefix_fits most None count.0 count.1) le (more_changes_within prefix_fits most None count.0 n count.1 h))
 
 abbrev entry : ℕ → List Change → Entry
 entry number changes = record { number = number; changes = changes }
@@ -98,11 +115,11 @@ entry number changes = record { number = number; changes = changes }
 entry_within : {S : Type 0} (rule : Rule S) (most : ℕ) (state : S) (n : ℕ) (bytes : List ℕ) → length bytes ≤ n → Within n (entry_of rule most state bytes)
 unfolding entry_of
 entry_within rule most state n bytes le =
-    then n (number_of 8 bytes) (λ number. ensure (rule.number_fits state number.0) (length bytes) >>= λ next. (changes_of most number.1 >>= λ changes. (given (rule.after state (entry number.0 changes.0)) (length bytes) >>= λ after. Ok ((entry number.0 changes.0, after), changes.1))))
+    then n (number_of 8 bytes) (λ number. ensure (rule.number_fits state number.0) (length bytes) >>= λ next. (changes_of rule.prefix_fits most number.1 >>= λ changes. (given (rule.after state (entry number.0 changes.0)) (length bytes) >>= λ after. Ok ((entry number.0 changes.0, after), changes.1))))
     (number_within 8 n bytes le)
-    (λ number h. ensured n (length bytes) (rule.number_fits state number.0) (λ next. changes_of most number.1 >>= λ changes. (given (rule.after state (entry number.0 changes.0)) (length bytes) >>= λ after. Ok ((entry number.0 changes.0, after), changes.1))) le
-    (then n (changes_of most number.1) (λ changes. given (rule.after state (entry number.0 changes.0)) (length bytes) >>= λ after. Ok ((entry number.0 changes.0, after), changes.1))
-    (changes_within most n number.1 h)
+    (λ number h. ensured n (length bytes) (rule.number_fits state number.0) (λ next. changes_of rule.prefix_fits most number.1 >>= λ changes. (given (rule.after state (entry number.0 changes.0)) (length bytes) >>= λ after. Ok ((entry number.0 changes.0, after), changes.1))) le
+    (then n (changes_of rule.prefix_fits most number.1) (λ changes. given (rule.after state (entry number.0 changes.0)) (length bytes) >>= λ after. Ok ((entry number.0 changes.0, after), changes.1))
+    (changes_within rule.prefix_fits most n number.1 h)
     (λ changes i. given_within n (length bytes) (rule.after state (entry number.0 changes.0)) (λ after. Ok ((entry number.0 changes.0, after), changes.1)) le (λ after. i))))
 
 entries_within : {S : Type 0} (rule : Rule S) (most : ℕ) (state : S) (count n : ℕ) (bytes : List ℕ) → length bytes ≤ n → Within n (entries_of rule most state count bytes)

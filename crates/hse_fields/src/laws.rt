@@ -5,7 +5,7 @@ ghost use Rattle.byteorder.specs.Endian.{big_bytes};
 ghost use Rattle.hse_fields.specs.Fields.{bytes_at, number_at};
 ghost use Rattle.hse_fields.specs.LogText.{Entry, payload_text};
 ghost use Rattle.hse_fields.specs.LogForm.{ArePayload};
-ghost use Rattle.hse_fields.specs.LogReading.{any, payload_of};
+ghost use Rattle.hse_fields.specs.LogReading.{any, payload_of, Follow, PrefixesFit, Rule};
 
 /// What was put is taken again, whatever stands before and behind it.
 pub fn put_is_taken()
@@ -29,4 +29,21 @@ pub fn log_text_is_read()
         → bytes ≡ payload_text entries → ⊥ }
     ensures within { (most left : ℕ) (bytes : List ℕ) → payload_of any most tt bytes ≡ Err left
         → left ≤ 4 + length bytes }
+{}
+
+/// The same where a rule asks more of the entries: what is read are entries that may come one after
+/// another and whose prefix deletes have lengths that fit, and what is spelled so of such entries is
+/// read.
+pub fn log_text_is_read_by_rule<S>()
+    ensures read { (rule : Rule S) (most : ℕ) (state last : S) (bytes : List ℕ)
+        (entries : List Entry) → ((i : ℕ) → slice_index bytes i < 256)
+        → payload_of rule most state bytes ≡ Ok (entries, last)
+        → (bytes ≡ payload_text entries) × ArePayload most entries
+        × Follow rule state entries last × PrefixesFit rule.prefix_fits entries }
+    ensures spelled { (rule : Rule S) (most : ℕ) (state last : S) (entries : List Entry)
+        → most < 2 ^ 32 → ArePayload most entries → Follow rule state entries last
+        → PrefixesFit rule.prefix_fits entries
+        → payload_of rule most state (payload_text entries) ≡ Ok (entries, last) }
+    ensures within { (rule : Rule S) (most left : ℕ) (state : S) (bytes : List ℕ)
+        → payload_of rule most state bytes ≡ Err left → left ≤ 4 + length bytes }
 {}

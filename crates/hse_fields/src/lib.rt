@@ -7,7 +7,7 @@ mod put;
 mod short;
 mod take;
 
-pub use laws::{log_text_is_read, put_is_taken};
+pub use laws::{log_text_is_read, log_text_is_read_by_rule, put_is_taken};
 pub use put::{put_bytes, put_u8, put_u16, put_u32, put_u64};
 pub use short::Short;
 pub use take::{take_bytes, take_u8, take_u16, take_u32, take_u64};

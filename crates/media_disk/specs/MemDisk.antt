@@ -25,6 +25,10 @@ mem_could disk = could_of disk.history.calls.items disk.bytes.items
 abbrev pub mem_clock : MemDisk → ℕ
 mem_clock disk = disk.history.clock
 
+-- the clock behind the last call that failed
+abbrev pub mem_failed_at : MemDisk → ℕ
+mem_failed_at disk = disk.history.failed_at
+
 -- the calls that are to fail
 abbrev pub mem_lists : MemDisk → Lists
 mem_lists disk = disk.history.lists
@@ -47,5 +51,6 @@ pub record ListsOnly (old new : MemDisk) (asked : Lists) : Type 0 where
   pub bytes : mem_bytes new ≡ mem_bytes old
   pub calls : mem_calls new ≡ mem_calls old
   pub clock : mem_clock new ≡ mem_clock old
+  pub failed : mem_failed_at new ≡ mem_failed_at old
   pub listed : mem_listed new ≡ mem_listed old
   pub refused : mem_refused new ≡ mem_refused old

@@ -36,6 +36,9 @@ pub trait Disk {
     /// The clock: how many calls of the five there were.
     ghost moment: { Self → ℕ };
 
+    /// The clock behind the last of them that failed.
+    ghost failed_at: { Self → ℕ };
+
     /// The images that a crash at some moment since that clock might have left, inside a call too.
     ghost could: { Self → ℕ → List ℕ → Type 0 };
 
@@ -49,6 +52,8 @@ pub trait Disk {
         ensures clock { moment self.new ≡ min (moment self.old + 1) (2 ^ 64 - 1) }
         ensures forward { moment self.old ≤ moment self.new }
         ensures spent { moment self.old ≡ 2 ^ 64 - 1 → IsErr result }
+        ensures failed { OnErr result (failed_at self.new ≡ moment self.new) }
+        ensures unfailed { OnOk result (failed_at self.new ≡ failed_at self.old) }
         ensures cause { HasCause (faults self.old) (faults self.new) result };
 
     /// Gives an empty device a size. The new bytes read as zeros, and are pending. A failed call leaves the device
@@ -66,6 +71,8 @@ pub trait Disk {
         ensures clock { moment self.new ≡ min (moment self.old + 1) (2 ^ 64 - 1) }
         ensures forward { moment self.old ≤ moment self.new }
         ensures spent { moment self.old ≡ 2 ^ 64 - 1 → IsErr result }
+        ensures failed { OnErr result (failed_at self.new ≡ moment self.new) }
+        ensures unfailed { OnOk result (failed_at self.new ≡ failed_at self.old) }
         ensures cause { HasCause (faults self.old) (faults self.new) result };
 
     /// Reads the bytes from `at` on. After a failed read the buffer is open.
@@ -79,6 +86,8 @@ pub trait Disk {
         ensures clock { moment self.new ≡ min (moment self.old + 1) (2 ^ 64 - 1) }
         ensures forward { moment self.old ≤ moment self.new }
         ensures spent { moment self.old ≡ 2 ^ 64 - 1 → IsErr result }
+        ensures failed { OnErr result (failed_at self.new ≡ moment self.new) }
+        ensures unfailed { OnOk result (failed_at self.new ≡ failed_at self.old) }
         ensures cause { HasCause (faults self.old) (faults self.new) result };
 
     /// Writes the bytes from `at` on. Until a sync the range is pending, also after a failed write, unless the device
@@ -95,6 +104,8 @@ pub trait Disk {
         ensures clock { moment self.new ≡ min (moment self.old + 1) (2 ^ 64 - 1) }
         ensures forward { moment self.old ≤ moment self.new }
         ensures spent { moment self.old ≡ 2 ^ 64 - 1 → IsErr result }
+        ensures failed { OnErr result (failed_at self.new ≡ moment self.new) }
+        ensures unfailed { OnOk result (failed_at self.new ≡ failed_at self.old) }
         ensures cause { HasCause (faults self.old) (faults self.new) result };
 
     /// Makes all that was written safe: after it a crash leaves what a read gives. A failed sync leaves all pending.
@@ -107,6 +118,8 @@ pub trait Disk {
         ensures clock { moment self.new ≡ min (moment self.old + 1) (2 ^ 64 - 1) }
         ensures forward { moment self.old ≤ moment self.new }
         ensures spent { moment self.old ≡ 2 ^ 64 - 1 → IsErr result }
+        ensures failed { OnErr result (failed_at self.new ≡ moment self.new) }
+        ensures unfailed { OnOk result (failed_at self.new ≡ failed_at self.old) }
         ensures cause { HasCause (faults self.old) (faults self.new) result };
 
     /// How many calls of the other five there were; at the last value of a `u64` each further call fails.

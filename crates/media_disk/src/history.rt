@@ -15,6 +15,8 @@ use std::collections::VecDeque;
 pub struct History {
     pub calls: VecDeque<Call>,
     pub clock: u64,
+    /// The clock behind the last call that failed.
+    pub failed_at: u64,
     pub lists: FaultList,
     pub listed: u64,
     pub refused: u64,
@@ -26,6 +28,7 @@ impl History {
     pub fn new(alloc: Global) -> History
         ensures calls { result.calls.items ≡ [] }
         ensures clock { result.clock ≡ 0 }
+        ensures failed_at { result.failed_at ≡ 0 }
         ensures lists { result.lists ≡ record { calls = []; from = 2 ^ 64 - 1; write = 0 } }
         ensures listed { result.listed ≡ 0 }
         ensures refused { result.refused ≡ 0 }
@@ -33,6 +36,7 @@ impl History {
         History {
             calls: VecDeque::new(alloc),
             clock: 0,
+            failed_at: 0,
             lists: FaultList::new(alloc),
             listed: 0,
             refused: 0,
@@ -46,6 +50,8 @@ impl History {
         ensures clock { self.new.clock ≡ min (self.old.clock + 1) (2 ^ 64 - 1) }
         ensures forward { self.old.clock ≤ self.new.clock }
         ensures spent { self.old.clock ≡ 2 ^ 64 - 1 → IsErr result }
+        ensures failed { OnErr result (self.new.failed_at ≡ self.new.clock) }
+        ensures unfailed { OnOk result (self.new.failed_at ≡ self.old.failed_at) }
         ensures cause { HasCause (self.old.listed + self.old.refused)
             (self.new.listed + self.new.refused) result }
         ensures counts { Counts (fails self.old.lists self.old.clock) self.old.clock
@@ -63,6 +69,8 @@ impl History {
         ensures clock { self.new.clock ≡ min (self.old.clock + 1) (2 ^ 64 - 1) }
         ensures forward { self.old.clock ≤ self.new.clock }
         ensures spent { self.old.clock ≡ 2 ^ 64 - 1 → IsErr result }
+        ensures failed { OnErr result (self.new.failed_at ≡ self.new.clock) }
+        ensures unfailed { OnOk result (self.new.failed_at ≡ self.old.failed_at) }
         ensures cause { HasCause (self.old.listed + self.old.refused)
             (self.new.listed + self.new.refused) result }
         ensures counts { Counts (fails_write self.old.lists self.old.clock) self.old.clock
@@ -79,6 +87,7 @@ impl History {
     /// Counts a call for which memory was refused.
     pub fn enter_refused(&mut self) -> Result<(), Failed>
         ensures failed { IsErr result }
+        ensures failed_at { self.new.failed_at ≡ self.new.clock }
         ensures calls { self.new.calls.items ≡ self.old.calls.items }
         ensures rose { self.old.clock < 2 ^ 64 - 1 → self.new.listed ≡ self.old.listed }
         ensures clock { self.new.clock ≡ min (self.old.clock + 1) (2 ^ 64 - 1) }
@@ -101,6 +110,8 @@ impl History {
         ensures clock { self.new.clock ≡ min (self.old.clock + 1) (2 ^ 64 - 1) }
         ensures forward { self.old.clock ≤ self.new.clock }
         ensures spent { self.old.clock ≡ 2 ^ 64 - 1 → IsErr result }
+        ensures failed { OnErr result (self.new.failed_at ≡ self.new.clock) }
+        ensures unfailed { OnOk result (self.new.failed_at ≡ self.old.failed_at) }
         ensures cause { HasCause (self.old.listed + self.old.refused)
             (self.new.listed + self.new.refused) result }
         ensures counts { Counts listed self.old.clock
@@ -121,6 +132,7 @@ impl History {
         }
         self.clock = clock + 1;
         if listed {
+            self.failed_at = self.clock;
             self.listed = self.listed.saturating_add(1);
             return Err(Failed);
         }
@@ -131,6 +143,7 @@ impl History {
     fn refuse(&mut self, listed: bool) -> Result<(), Failed>
         requires { self.old.clock ≡ 2 ^ 64 - 1 → IsTrue listed }
         ensures failed { IsErr result }
+        ensures failed_at { self.new.failed_at ≡ self.new.clock }
         ensures calls { self.new.calls.items ≡ self.old.calls.items }
         ensures rose { self.old.clock < 2 ^ 64 - 1 → self.new.listed ≡ self.old.listed }
         ensures clock { self.new.clock ≡ min (self.old.clock + 1) (2 ^ 64 - 1) }
@@ -142,10 +155,12 @@ impl History {
         ensures lists { self.new.lists ≡ self.old.lists }
     {
         if self.clock == u64::MAX {
+            self.failed_at = self.clock;
             self.listed = self.listed.saturating_add(1);
             return Err(Failed);
         }
         self.clock += 1;
+        self.failed_at = self.clock;
         self.refused = self.refused.saturating_add(1);
         Err(Failed)
     }

@@ -14,6 +14,8 @@ impl<D: Disk> Disk for &mut D {
 
     ghost moment = { λ d. D.moment d.now };
 
+    ghost failed_at = { λ d. D.failed_at d.now };
+
     ghost could = { λ d. D.could d.now };
 
     ghost as_long = { λ d. D.as_long d.now };

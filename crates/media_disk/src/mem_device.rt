@@ -5,7 +5,7 @@ ghost use Rattle.media_disk.specs.Content.{part, put_at, Torn};
 ghost use Rattle.media_disk.specs.Counts.{Counts};
 ghost use Rattle.media_disk.specs.Images.{IsImage, Elapses};
 ghost use Rattle.media_disk.specs.Lists.{fails, fails_write, after_write};
-ghost use Rattle.media_disk.specs.MemDisk.{mem_bytes, mem_calls, mem_pending, mem_could, mem_clock, mem_lists, mem_listed, mem_refused, mem_faults};
+ghost use Rattle.media_disk.specs.MemDisk.{mem_bytes, mem_calls, mem_pending, mem_could, mem_clock, mem_failed_at, mem_lists, mem_listed, mem_refused, mem_faults};
 ghost use Rattle.media_disk.specs.Record.{IsRecorded, IsWriteRecorded};
 ghost use Rattle.media_disk.specs.Moments.{could_now, could_only_now};
 
@@ -24,6 +24,8 @@ impl Disk for MemDisk {
     ghost faults = { mem_faults };
 
     ghost moment = { mem_clock };
+
+    ghost failed_at = { mem_failed_at };
 
     ghost could = { mem_could };
 
@@ -44,6 +46,8 @@ impl Disk for MemDisk {
         ensures clock { mem_clock self.new ≡ min (mem_clock self.old + 1) (2 ^ 64 - 1) }
         ensures forward { mem_clock self.old ≤ mem_clock self.new }
         ensures spent { mem_clock self.old ≡ 2 ^ 64 - 1 → IsErr result }
+        ensures failed { OnErr result (mem_failed_at self.new ≡ mem_clock self.new) }
+        ensures unfailed { OnOk result (mem_failed_at self.new ≡ mem_failed_at self.old) }
         ensures cause { HasCause (mem_faults self.old) (mem_faults self.new) result }
         ensures recorded { IsRecorded (mem_clock self.old) Work.Size
             (mem_calls self.old) (mem_calls self.new)
@@ -71,6 +75,8 @@ impl Disk for MemDisk {
         ensures clock { mem_clock self.new ≡ min (mem_clock self.old + 1) (2 ^ 64 - 1) }
         ensures forward { mem_clock self.old ≤ mem_clock self.new }
         ensures spent { mem_clock self.old ≡ 2 ^ 64 - 1 → IsErr result }
+        ensures failed { OnErr result (mem_failed_at self.new ≡ mem_clock self.new) }
+        ensures unfailed { OnOk result (mem_failed_at self.new ≡ mem_failed_at self.old) }
         ensures cause { HasCause (mem_faults self.old) (mem_faults self.new) result }
         ensures recorded { IsRecorded (mem_clock self.old) (Work.SetSize size)
             (mem_calls self.old) (mem_calls self.new)
@@ -99,6 +105,8 @@ impl Disk for MemDisk {
         ensures clock { mem_clock self.new ≡ min (mem_clock self.old + 1) (2 ^ 64 - 1) }
         ensures forward { mem_clock self.old ≤ mem_clock self.new }
         ensures spent { mem_clock self.old ≡ 2 ^ 64 - 1 → IsErr result }
+        ensures failed { OnErr result (mem_failed_at self.new ≡ mem_clock self.new) }
+        ensures unfailed { OnOk result (mem_failed_at self.new ≡ mem_failed_at self.old) }
         ensures cause { HasCause (mem_faults self.old) (mem_faults self.new) result }
         ensures recorded { IsRecorded (mem_clock self.old) Work.Read
             (mem_calls self.old) (mem_calls self.new)
@@ -134,6 +142,8 @@ impl Disk for MemDisk {
         ensures clock { mem_clock self.new ≡ min (mem_clock self.old + 1) (2 ^ 64 - 1) }
         ensures forward { mem_clock self.old ≤ mem_clock self.new }
         ensures spent { mem_clock self.old ≡ 2 ^ 64 - 1 → IsErr result }
+        ensures failed { OnErr result (mem_failed_at self.new ≡ mem_clock self.new) }
+        ensures unfailed { OnOk result (mem_failed_at self.new ≡ mem_failed_at self.old) }
         ensures cause { HasCause (mem_faults self.old) (mem_faults self.new) result }
         ensures recorded { IsWriteRecorded (mem_clock self.old) at
             (part (mem_bytes self.old) at (length bytes.now))
@@ -161,6 +171,8 @@ impl Disk for MemDisk {
         ensures clock { mem_clock self.new ≡ min (mem_clock self.old + 1) (2 ^ 64 - 1) }
         ensures forward { mem_clock self.old ≤ mem_clock self.new }
         ensures spent { mem_clock self.old ≡ 2 ^ 64 - 1 → IsErr result }
+        ensures failed { OnErr result (mem_failed_at self.new ≡ mem_clock self.new) }
+        ensures unfailed { OnOk result (mem_failed_at self.new ≡ mem_failed_at self.old) }
         ensures cause { HasCause (mem_faults self.old) (mem_faults self.new) result }
         ensures recorded { IsRecorded (mem_clock self.old) Work.Sync
             (mem_calls self.old) (mem_calls self.new)

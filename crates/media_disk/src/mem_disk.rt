@@ -23,7 +23,7 @@ pub struct MemDisk {
 impl MemDisk {
     ghost use Rattle.std.specs.Prelude.{◌≡◌, ◌-◌, ◌^◌, []};
     ghost use Rattle.media_disk.specs.Lists.{Lists};
-    ghost use Rattle.media_disk.specs.MemDisk.{mem_bytes, mem_calls, mem_pending, mem_clock, mem_lists, mem_listed, mem_refused, ListsOnly};
+    ghost use Rattle.media_disk.specs.MemDisk.{mem_bytes, mem_calls, mem_pending, mem_clock, mem_failed_at, mem_lists, mem_listed, mem_refused, ListsOnly};
 
     /// A device of size 0. No call was made, and none is listed.
     pub fn new(alloc: Global) -> MemDisk
@@ -31,6 +31,7 @@ impl MemDisk {
         ensures pending { mem_pending result ≡ [] }
         ensures calls { mem_calls result ≡ [] }
         ensures clock { mem_clock result ≡ 0 }
+        ensures failed { mem_failed_at result ≡ 0 }
         ensures lists { mem_lists result ≡ record { calls = []; from = 2 ^ 64 - 1; write = 0 } }
         ensures listed { mem_listed result ≡ 0 }
         ensures refused { mem_refused result ≡ 0 }
@@ -44,6 +45,7 @@ impl MemDisk {
         ensures pending { mem_pending result ≡ [] }
         ensures calls { mem_calls result ≡ [] }
         ensures clock { mem_clock result ≡ 0 }
+        ensures failed { mem_failed_at result ≡ 0 }
         ensures lists { mem_lists result ≡ record { calls = []; from = 2 ^ 64 - 1; write = 0 } }
         ensures listed { mem_listed result ≡ 0 }
         ensures refused { mem_refused result ≡ 0 }

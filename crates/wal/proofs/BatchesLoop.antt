@@ -13,6 +13,7 @@ use Rattle.wal.specs.declared.segment.SegmentFault.TheVariants.{Damaged, Device,
 use Rattle.wal.specs.Given.{Refuses}
 use Rattle.wal.specs.Numbering.{Numbers, numbering}
 use Rattle.wal.specs.Replaying.{before, batches_of}
+use Rattle.wal.specs.declared.live.StorePrefix.{StorePrefix}
 
 -- what was read before, and what is still read
 abbrev pub with_front : List Entry → Result (List Entry × Numbers) ℕ → Result (List Entry × Numbers) ℕ
@@ -28,38 +29,38 @@ pub rest_is : (batches : List Payload) (i : ℕ) (batch : Payload) → i < lengt
     → drop i batches ≡ batch ∷ drop (i + 1) batches
 rest_is batches i batch lt is = drop_more batches i batch lt ∙ ap (λ (b : Payload). b ∷ drop (i + 1) batches) (sym is)
 
-pub goes_on : (most : ℕ) (front : List Entry) (state : Numbers) (gate : ℕ) (batches : List Payload) (i : ℕ) (batch : Payload) (es : List Entry) (next : Numbers) (total : Result (List Entry × Numbers) ℕ)
+pub goes_on : (live : List StorePrefix) (most : ℕ) (front : List Entry) (state : Numbers) (gate : ℕ) (batches : List Payload) (i : ℕ) (batch : Payload) (es : List Entry) (next : Numbers) (total : Result (List Entry × Numbers) ℕ)
     → i < length batches → batch ≡ get_or batches i batch
-    → before (gate + need_of batch.bytes.items) (payload_of numbering most state batch.bytes.items) ≡ Ok (es, next)
-    → with_front front (batches_of most state gate (payloads_of (drop i batches))) ≡ total
-    → with_front (front ++ es) (batches_of most next (gate + need_of batch.bytes.items) (payloads_of (drop (i + 1) batches))) ≡ total
+    → before (gate + need_of batch.bytes.items) (payload_of (numbering live) most state batch.bytes.items) ≡ Ok (es, next)
+    → with_front front (batches_of live most state gate (payloads_of (drop i batches))) ≡ total
+    → with_front (front ++ es) (batches_of live most next (gate + need_of batch.bytes.items) (payloads_of (drop (i + 1) batches))) ≡ total
 unfolding batches_of
-goes_on most front state gate batches i batch es next total lt is h so_far =
-    let one : with_front front (batches_of most state gate (payloads_of (drop i batches)))
-    ≡ with_front (front ++ es) (batches_of most next (gate + need_of batch.bytes.items) (payloads_of (drop (i + 1) batches))) =
-    ap (λ (bs : List Payload). with_front front (batches_of most state gate (payloads_of bs))) (rest_is batches i batch lt is)
-    ∙ rw h (regroup front es (batches_of most next (gate + need_of batch.bytes.items) (payloads_of (drop (i + 1) batches)))) in
+goes_on live most front state gate batches i batch es next total lt is h so_far =
+    let one : with_front front (batches_of live most state gate (payloads_of (drop i batches)))
+    ≡ with_front (front ++ es) (batches_of live most next (gate + need_of batch.bytes.items) (payloads_of (drop (i + 1) batches))) =
+    ap (λ (bs : List Payload). with_front front (batches_of live most state gate (payloads_of bs))) (rest_is batches i batch lt is)
+    ∙ rw h (regroup front es (batches_of live most next (gate + need_of batch.bytes.items) (payloads_of (drop (i + 1) batches)))) in
     sym one ∙ so_far
 
-pub stops : (fault : SegmentFault) (most : ℕ) (front : List Entry) (state : Numbers) (gate : ℕ) (batches : List Payload) (i : ℕ) (batch : Payload) (total : Result (List Entry × Numbers) ℕ)
+pub stops : (fault : SegmentFault) (live : List StorePrefix) (most : ℕ) (front : List Entry) (state : Numbers) (gate : ℕ) (batches : List Payload) (i : ℕ) (batch : Payload) (total : Result (List Entry × Numbers) ℕ)
     → i < length batches → batch ≡ get_or batches i batch
-    → Refuses fault (before (gate + need_of batch.bytes.items) (payload_of numbering most state batch.bytes.items))
-    → with_front front (batches_of most state gate (payloads_of (drop i batches))) ≡ total → Refuses fault total
+    → Refuses fault (before (gate + need_of batch.bytes.items) (payload_of (numbering live) most state batch.bytes.items))
+    → with_front front (batches_of live most state gate (payloads_of (drop i batches))) ≡ total → Refuses fault total
 unfolding batches_of
-stops NoMemory most front state gate batches i batch total lt is h so_far = tt
-stops Device most front state gate batches i batch total lt is h so_far = h
-stops (Damaged place) most front state gate batches i batch total lt is h so_far =
-    let one : with_front front (batches_of most state gate (payloads_of (drop i batches))) ≡ Err place =
-    ap (λ (bs : List Payload). with_front front (batches_of most state gate (payloads_of bs))) (rest_is batches i batch lt is)
+stops NoMemory live most front state gate batches i batch total lt is h so_far = tt
+stops Device live most front state gate batches i batch total lt is h so_far = h
+stops (Damaged place) live most front state gate batches i batch total lt is h so_far =
+    let one : with_front front (batches_of live most state gate (payloads_of (drop i batches))) ≡ Err place =
+    ap (λ (bs : List Payload). with_front front (batches_of live most state gate (payloads_of bs))) (rest_is batches i batch lt is)
     ∙ rw h refl in
     sym so_far ∙ one
 
-pub is_done : (most : ℕ) (front : List Entry) (state : Numbers) (gate : ℕ) (batches : List Payload) (i : ℕ) (total : Result (List Entry × Numbers) ℕ)
-    → length batches ≤ i → with_front front (batches_of most state gate (payloads_of (drop i batches))) ≡ total → total ≡ Ok (front, state)
+pub is_done : (live : List StorePrefix) (most : ℕ) (front : List Entry) (state : Numbers) (gate : ℕ) (batches : List Payload) (i : ℕ) (total : Result (List Entry × Numbers) ℕ)
+    → length batches ≤ i → with_front front (batches_of live most state gate (payloads_of (drop i batches))) ≡ total → total ≡ Ok (front, state)
 unfolding batches_of
-is_done most front state gate batches i total le so_far =
-    let one : with_front front (batches_of most state gate (payloads_of (drop i batches))) ≡ Ok (front, state) =
-    ap (λ (bs : List Payload). with_front front (batches_of most state gate (payloads_of bs))) (drop_all i batches le)
+is_done live most front state gate batches i total le so_far =
+    let one : with_front front (batches_of live most state gate (payloads_of (drop i batches))) ≡ Ok (front, state) =
+    ap (λ (bs : List Payload). with_front front (batches_of live most state gate (payloads_of bs))) (drop_all i batches le)
     ∙ ap (λ (es : List Entry). Ok (es, state)) (append-nil front) in
     sym so_far ∙ one
 

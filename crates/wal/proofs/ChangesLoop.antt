@@ -1,5 +1,5 @@
 -- Reading changes one after the other, as a loop does.
-use Rattle.std.proofs.Common.{◌≡◌, ℕ, suc, ◌-◌, ◌+◌, ◌≤◌, ◌<◌, List, [], ◌∷◌, ◌++◌, length, Option, Some, None, Result, Ok, Err, refl, sym, ap, ◌∙◌, append_assoc, arith, Bor}
+use Rattle.std.proofs.Common.{◌≡◌, ℕ, suc, ◌-◌, ◌+◌, ◌≤◌, ◌<◌, Bool, List, [], ◌∷◌, ◌++◌, length, Option, Some, None, Result, Ok, Err, refl, sym, ap, ◌∙◌, append_assoc, arith, Bor}
 use Rattle.std.specs.Prelude.{slice_get, option_map}
 use Rattle.std.proofs.lemmas.List.{append-nil, length_push}
 use Rattle.hse_fields.specs.LogText.{Change}
@@ -42,32 +42,32 @@ regroup : (front : List Change) (c : Change) (read : Result (List Change × List
 regroup front c (Ok x) = ap (λ (cs : List Change). Ok (cs, x.1)) (simp append_assoc)
 regroup front c (Err f) = refl
 
-pub goes_on : (most : ℕ) (front : List Change) (last : Option Change) (count i : ℕ) (bytes : List ℕ) (c : Change) (after : List ℕ) (total : Result (List Change × List ℕ) ℕ)
-    → i < count → change_of most last bytes ≡ Ok (c, after)
-    → with_front front (more_changes_of most last (count - i) bytes) ≡ total
-    → with_front (front ++ c ∷ []) (more_changes_of most (Some c) (count - (i + 1)) after) ≡ total
+pub goes_on : (prefix_fits : ℕ → ℕ → Bool) (most : ℕ) (front : List Change) (last : Option Change) (count i : ℕ) (bytes : List ℕ) (c : Change) (after : List ℕ) (total : Result (List Change × List ℕ) ℕ)
+    → i < count → change_of prefix_fits most last bytes ≡ Ok (c, after)
+    → with_front front (more_changes_of prefix_fits most last (count - i) bytes) ≡ total
+    → with_front (front ++ c ∷ []) (more_changes_of prefix_fits most (Some c) (count - (i + 1)) after) ≡ total
 unfolding more_changes_of
-goes_on most front last count i bytes c after total lt h so_far =
+goes_on prefix_fits most front last count i bytes c after total lt h so_far =
     let k : count - i ≡ suc (count - (i + 1)) = omega arith in
-    let one : with_front front (more_changes_of most last (count - i) bytes) ≡ with_front (front ++ c ∷ []) (more_changes_of most (Some c) (count - (i + 1)) after) =
-    rw (k, h) (regroup front c (more_changes_of most (Some c) (count - (i + 1)) after)) in
+    let one : with_front front (more_changes_of prefix_fits most last (count - i) bytes) ≡ with_front (front ++ c ∷ []) (more_changes_of prefix_fits most (Some c) (count - (i + 1)) after) =
+    rw (k, h) (regroup front c (more_changes_of prefix_fits most (Some c) (count - (i + 1)) after)) in
     sym one ∙ so_far
 
-pub stops : (e : Refusal) (most : ℕ) (front : List Change) (last : Option Change) (count i : ℕ) (bytes : List ℕ) (total : Result (List Change × List ℕ) ℕ)
-    → i < count → Fails e (change_of most last bytes)
-    → with_front front (more_changes_of most last (count - i) bytes) ≡ total → Fails e total
+pub stops : (e : Refusal) (prefix_fits : ℕ → ℕ → Bool) (most : ℕ) (front : List Change) (last : Option Change) (count i : ℕ) (bytes : List ℕ) (total : Result (List Change × List ℕ) ℕ)
+    → i < count → Fails e (change_of prefix_fits most last bytes)
+    → with_front front (more_changes_of prefix_fits most last (count - i) bytes) ≡ total → Fails e total
 unfolding more_changes_of
-stops NoMemory most front last count i bytes total lt h so_far = tt
-stops (Left left) most front last count i bytes total lt h so_far =
+stops NoMemory prefix_fits most front last count i bytes total lt h so_far = tt
+stops (Left left) prefix_fits most front last count i bytes total lt h so_far =
     let k : count - i ≡ suc (count - (i + 1)) = omega arith in
-    let one : with_front front (more_changes_of most last (count - i) bytes) ≡ Err left = rw (k, h) refl in
+    let one : with_front front (more_changes_of prefix_fits most last (count - i) bytes) ≡ Err left = rw (k, h) refl in
     sym so_far ∙ one
 
-pub is_done : (most : ℕ) (front : List Change) (last : Option Change) (count i : ℕ) (bytes : List ℕ) (total : Result (List Change × List ℕ) ℕ)
-    → count ≤ i → with_front front (more_changes_of most last (count - i) bytes) ≡ total → total ≡ Ok (front, bytes)
+pub is_done : (prefix_fits : ℕ → ℕ → Bool) (most : ℕ) (front : List Change) (last : Option Change) (count i : ℕ) (bytes : List ℕ) (total : Result (List Change × List ℕ) ℕ)
+    → count ≤ i → with_front front (more_changes_of prefix_fits most last (count - i) bytes) ≡ total → total ≡ Ok (front, bytes)
 unfolding more_changes_of
-is_done most front last count i bytes total le so_far =
+is_done prefix_fits most front last count i bytes total le so_far =
     let k : count - i ≡ 0 = omega arith in
-    let one : with_front front (more_changes_of most last (count - i) bytes) ≡ Ok (front, bytes) =
+    let one : with_front front (more_changes_of prefix_fits most last (count - i) bytes) ≡ Ok (front, bytes) =
     rw k (ap (λ (cs : List Change). Ok (cs, bytes)) (append-nil front)) in
     sym so_far ∙ one

@@ -4,4 +4,5 @@ pub mod EntryLemmas
 pub mod EntriesLoop
 pub mod BatchesLoop
 pub mod LengthLemmas
+pub mod SoundLemmas
 pub mod TextLemmas

@@ -1,7 +1,12 @@
 pub mod Logged
 pub mod Kinds
 pub mod Charges
+pub mod Live
 pub mod Numbering
 pub mod Expected
 pub mod Given
 pub mod Replaying
+pub mod Numbered
+pub mod NumberingLaws
+pub mod BatchLaws
+pub mod Sound

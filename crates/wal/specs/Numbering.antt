@@ -3,7 +3,9 @@
 use Rattle.std.specs.Prelude.{ℕ, ◌+◌, ◌-◌, List, [], ◌∷◌, Bool, Option, Some, None, nat_lt, nat_le, ◌==◌, ◌&&◌, if◌then◌else◌}
 use Rattle.hse_fields.specs.LogText.{Entry}
 use Rattle.hse_fields.specs.LogReading.{Rule}
+use Rattle.wal.specs.Live.{prefix_fits}
 use Rattle.wal.specs.Logged.{charge}
+use Rattle.wal.specs.declared.live.StorePrefix.{StorePrefix}
 
 -- what is known between two entries
 pub record Numbers : Type 0 where
@@ -37,5 +39,6 @@ after s e =
     if nat_lt s.room (charge e) then None
     else Some (record { next = e.number + 1; taken = taken_from s.next s.taken; room = s.room - charge e })
 
-abbrev pub numbering : Rule Numbers
-numbering = record { number_fits = is_next; after = after }
+-- with these live stores
+abbrev pub numbering : List StorePrefix → Rule Numbers
+numbering live = record { prefix_fits = prefix_fits live; number_fits = is_next; after = after }

@@ -1,6 +1,5 @@
 -- What a segment's region says.
-use Rattle.std.specs.Prelude.{◌≡◌, ℕ, ◌+◌, ◌-◌, List, [], ◌∷◌, ◌++◌, Option, Some, None, Result, Ok, Err}
-use Rattle.gate_log.specs.Gates.{IsShut}
+use Rattle.std.specs.Prelude.{◌≡◌, ℕ, ◌+◌, ◌-◌, List, [], ◌∷◌, ◌++◌, Result, Ok, Err}
 use Rattle.gate_log.specs.Places.{need_of}
 use Rattle.gate_log.specs.Reading.{Ends}
 use Rattle.gate_log.specs.declared.front.End.{End}
@@ -12,6 +11,7 @@ use Rattle.hse_fields.specs.LogReading.{◌>>=◌, payload_of}
 use Rattle.wal.specs.Charges.{charges}
 use Rattle.wal.specs.Logged.{entries_of}
 use Rattle.wal.specs.Numbering.{Numbers, numbering}
+use Rattle.wal.specs.declared.live.StorePrefix.{StorePrefix}
 use Rattle.wal.specs.declared.segment.Segment.{Segment}
 use Rattle.wal.specs.declared.segment.SegmentFault.{SegmentFault}
 use Rattle.wal.specs.declared.segment.SegmentFault.TheVariants.{Damaged, Device, NoMemory}
@@ -23,11 +23,11 @@ before end (Err left) = Err (end - left)
 
 -- The entries of batches whose first gate stands at this place, and what is known after them; or the place
 -- of the first refused field.
-unfoldable pub batches_of : ℕ → Numbers → ℕ → List (List ℕ) → Result (List Entry × Numbers) ℕ
-batches_of most state gate [] = Ok ([], state)
-batches_of most state gate (payload ∷ payloads) = do
-  first ← before (gate + need_of payload) (payload_of numbering most state payload)
-  others ← batches_of most first.1 (gate + need_of payload) payloads
+unfoldable pub batches_of : List StorePrefix → ℕ → Numbers → ℕ → List (List ℕ) → Result (List Entry × Numbers) ℕ
+batches_of live most state gate [] = Ok ([], state)
+batches_of live most state gate (payload ∷ payloads) = do
+  first ← before (gate + need_of payload) (payload_of (numbering live) most state payload)
+  others ← batches_of live most first.1 (gate + need_of payload) payloads
   Ok (first.0 ++ others.0, others.1)
 
 -- a batch that does not lie inside is refused at its length, where nothing before it was
@@ -35,35 +35,36 @@ abbrev pub ended : End → List Entry × Numbers → Result (List Entry × Numbe
 ended (Closed tail) read = Ok read
 ended (CutOff place) read = Err place
 
-abbrev pub segment_of : ℕ → Numbers → List (List ℕ) → End → Result (List Entry × Numbers) ℕ
-segment_of most start payloads end = batches_of most start 9 payloads >>= ended end
+abbrev pub segment_of : List StorePrefix → ℕ → Numbers → List (List ℕ) → End → Result (List Entry × Numbers) ℕ
+segment_of live most start payloads end = batches_of live most start 9 payloads >>= ended end
 
 -- what is known before the first entry of a segment in a region of this size: 64 bytes are no room
 abbrev pub starting : ℕ → List ℕ → ℕ → Numbers
 starting next taken size = record { next = next; taken = taken; room = size - 64 }
 
 -- the segment is what the region says
-pub record IsSegment (region : List ℕ) (most : ℕ) (start : Numbers) (segment : Segment) : Type 0 where
+pub record IsSegment (region : List ℕ) (live : List StorePrefix) (most : ℕ) (start : Numbers) (segment : Segment) : Type 0 where
   pub payloads : List (List ℕ)
   pub ends : Ends region segment.sequence payloads (Closed segment.tail)
   pub last : Numbers
-  pub read : segment_of most start payloads (Closed segment.tail) ≡ Ok (entries_of segment.commits.items, last)
+  pub read : segment_of live most start payloads (Closed segment.tail) ≡ Ok (entries_of segment.commits.items, last)
+  pub next : segment.next ≡ last.next
   pub charges : segment.charges ≡ charges (entries_of segment.commits.items)
 
 -- the region is refused at this place
-pub record IsRefused (region : List ℕ) (most : ℕ) (start : Numbers) (place : ℕ) : Type 0 where
+pub record IsRefused (region : List ℕ) (live : List StorePrefix) (most : ℕ) (start : Numbers) (place : ℕ) : Type 0 where
   pub sequence : ℕ
   pub payloads : List (List ℕ)
   pub end : End
   pub ends : Ends region sequence payloads end
-  pub refused : segment_of most start payloads end ≡ Err place
+  pub refused : segment_of live most start payloads end ≡ Err place
 
-abbrev pub IsReplay : List ℕ → ℕ → Numbers → Result (Option Segment) SegmentFault → Type 0
-IsReplay region most start (Ok (Some segment)) = IsSegment region most start segment
-IsReplay region most start (Ok None) = IsShut region
-IsReplay region most start (Err (Damaged place)) = IsRefused region most start place
-IsReplay region most start (Err Device) = Unit {0}
-IsReplay region most start (Err NoMemory) = Unit {0}
+-- The answer says what a region with an open head says.
+abbrev pub IsReplay : List ℕ → List StorePrefix → ℕ → Numbers → Result Segment SegmentFault → Type 0
+IsReplay region live most start (Ok segment) = IsSegment region live most start segment
+IsReplay region live most start (Err (Damaged place)) = IsRefused region live most start place
+IsReplay region live most start (Err Device) = Unit {0}
+IsReplay region live most start (Err NoMemory) = Unit {0}
 
 -- the fault is the same
 abbrev pub IsSameFault : FrontFault → SegmentFault → Type 0

@@ -13,7 +13,7 @@ ghost use Rattle.wal.specs.Replaying.{before, batches_of};
 use crate::expected::Expected;
 use crate::payload::payload_at;
 use crate::refusal::Refusal;
-use crate::{Commit, SegmentFault};
+use crate::{Commit, SegmentFault, StorePrefix};
 use gate_log::Payload;
 use std::alloc::Global;
 
@@ -27,17 +27,19 @@ const FRAME: u64 = 5;
 fn batch_at<'t>(
     alloc: Global,
     most: u64,
+    live: &[StorePrefix],
     expected: Expected<'t>,
     end: u64,
     payload: &[u8],
 ) -> Result<(Vec<Commit>, Expected<'t>), SegmentFault>
     requires { 4 + length payload.now ≤ end }
     ensures gives { Tells (λ x. (entries_of x.0.items, numbers_as x.1)) result
-        (before end (payload_of numbering most (numbers_as expected.entry) payload.now)) }
+        (before end
+        (payload_of (numbering live.now) most (numbers_as expected.entry) payload.now)) }
     ensures charged { IfOk result (λ x. charges (entries_of x.0.items) + x.1.room
         ≡ expected.entry.room) }
 {
-    match payload_at(alloc, most, expected, payload) {
+    match payload_at(alloc, most, live, expected, payload) {
         Ok(read) => Ok(read),
         Err(Refusal::Left(left)) => Err(SegmentFault::Damaged(end - left)),
         Err(Refusal::NoMemory) => Err(SegmentFault::NoMemory),
@@ -49,12 +51,13 @@ fn batch_at<'t>(
 pub(crate) fn batches_at<'t>(
     alloc: Global,
     most: u64,
+    live: &[StorePrefix],
     expected: Expected<'t>,
     batches: &[Payload],
 ) -> Result<(Vec<Commit>, Expected<'t>), SegmentFault>
     requires { tail_of (payloads_of batches.now) < 2 ^ 64 }
     ensures gives { Tells (λ x. (entries_of x.0.items, numbers_as x.1)) result
-        (batches_of most (numbers_as expected.entry) 9 (payloads_of batches.now)) }
+        (batches_of live.now most (numbers_as expected.entry) 9 (payloads_of batches.now)) }
     ensures charged { IfOk result (λ x. charges (entries_of x.0.items) + x.1.room
         ≡ expected.entry.room) }
 {
@@ -63,7 +66,7 @@ pub(crate) fn batches_at<'t>(
     let mut gate = FIRST_GATE;
     for batch in batches {
         let end = gate + FRAME + batch.bytes.len() as u64;
-        let (mut more, after) = batch_at(alloc, most, next, end, &batch.bytes)?;
+        let (mut more, after) = batch_at(alloc, most, live, next, end, &batch.bytes)?;
         commits.append(&mut more)?;
         next = after;
         gate = end;

@@ -1,14 +1,17 @@
 //! Reads one change.
 ghost use Rattle.std.specs.Prelude.{◌≡◌, ◌≤◌, ℕ, [], length, IfOk};
 ghost use Rattle.hse_fields.specs.LogForm.{longest_name, ValueFits};
-ghost use Rattle.hse_fields.specs.LogReading.{change, kind_of, change_of};
+ghost use Rattle.hse_fields.specs.LogReading.{change, kind_of, name_of, change_of};
 ghost use Rattle.hse_rows.specs.Lengths.{IsKeyLength, IsPrefixLength};
 ghost use Rattle.wal.specs.Given.{Gives, kind_as};
+ghost use Rattle.wal.specs.Live.{prefix_fits};
 ghost use Rattle.wal.specs.Logged.{last_of, logged, logged_change};
 
-use crate::field::{byte_at, name_at, u64_at, value_at};
+use crate::StorePrefix;
+use crate::field::{byte_at, bytes_at, size_at, u64_at, value_at};
 use crate::kind::{Kind, kind_of_byte};
-use crate::order::{may_kind_follow, may_name_follow, may_store_follow};
+use crate::live::name_may;
+use crate::order::{may_front_follow, may_kind_follow, may_store_follow};
 use crate::refusal::Refusal;
 use hse_io::NoMemory;
 use hse_rows::{Change, Key, KeyFault, Prefix, PrefixFault, StoreId, Value, ValueFault, Write};
@@ -28,6 +31,31 @@ fn kind_at<'a>(last: Option<&Write>, bytes: &'a [u8]) -> Result<(Kind, &'a [u8])
         return Err(Refusal::Left(bytes.len() as u64));
     }
     Ok((kind, rest))
+}
+
+/// A change's name behind its length, for a change with so many bytes from its first one on.
+#[tactic(auto, unfolding(hse_fields::specs::LogReading::name_of))]
+fn name_at<'a>(
+    live: &[StorePrefix],
+    last: Option<&Write>,
+    left: u64,
+    kind: Kind,
+    store: u64,
+    bytes: &'a [u8],
+) -> Result<(&'a [u8], &'a [u8]), Refusal>
+    ensures gives { Gives (λ x. (x.0.now, x.1.now)) result
+        (name_of (prefix_fits live.now) (last_of last.entry) left (kind_as kind) store bytes.now) }
+    ensures some { IfOk result (λ x. 1 ≤ length x.0.now) }
+    ensures short { IfOk result (λ x. length x.0.now ≤ longest_name (kind_as kind)) }
+{
+    let (size, rest) = size_at(kind, bytes)?;
+    if !may_front_follow(last, kind, store, size, rest) {
+        return Err(Refusal::Left(left));
+    }
+    if !name_may(live, kind, store, size) {
+        return Err(Refusal::Left(bytes.len() as u64));
+    }
+    bytes_at(size, rest)
 }
 
 fn key_of(alloc: Global, name: &[u8]) -> Result<Key, NoMemory>
@@ -86,21 +114,19 @@ fn made(alloc: Global, kind: Kind, name: &[u8], value: &[u8]) -> Result<Change, 
 pub(crate) fn change_at<'a>(
     alloc: Global,
     most: u64,
+    live: &[StorePrefix],
     last: Option<&Write>,
     bytes: &'a [u8],
 ) -> Result<(Write, &'a [u8]), Refusal>
     ensures { Gives (λ x. (logged x.0, x.1.now)) result
-        (change_of most (last_of last.entry) bytes.now) }
+        (change_of (prefix_fits live.now) most (last_of last.entry) bytes.now) }
 {
     let (kind, rest) = kind_at(last, bytes)?;
     let (store, rest) = u64_at(rest)?;
     if !may_store_follow(last, kind, store) {
         return Err(Refusal::Left(bytes.len() as u64));
     }
-    let (name, rest) = name_at(kind, rest)?;
-    if !may_name_follow(last, kind, store, name) {
-        return Err(Refusal::Left(bytes.len() as u64));
-    }
+    let (name, rest) = name_at(live, last, bytes.len() as u64, kind, store, rest)?;
     let (value, rest) = value_at(kind, most, rest)?;
     let change = made(alloc, kind, name, value)?;
     let store = StoreId(store);

@@ -6,11 +6,11 @@ ghost use Rattle.wal.specs.Given.{Gives};
 ghost use Rattle.wal.specs.Logged.{entry_of};
 ghost use Rattle.wal.specs.Numbering.{numbering};
 
-use crate::Commit;
 use crate::changes::changes_at;
 use crate::expected::{Expected, LAST_NUMBER, free};
 use crate::field::u64_at;
 use crate::refusal::Refusal;
+use crate::{Commit, StorePrefix};
 use std::alloc::Global;
 
 /// What an entry takes of the segment's room beside its bytes.
@@ -21,11 +21,12 @@ const FRAME: u64 = 32;
 pub(crate) fn entry_at<'a, 't>(
     alloc: Global,
     most: u64,
+    live: &[StorePrefix],
     expected: Expected<'t>,
     bytes: &'a [u8],
 ) -> Result<((Commit, Expected<'t>), &'a [u8]), Refusal>
     ensures { Gives (λ x. ((entry_of x.0.0, numbers_as x.0.1), x.1.now)) result
-        (entry_read numbering most (numbers_as expected.entry) bytes.now) }
+        (entry_read (numbering live.now) most (numbers_as expected.entry) bytes.now) }
 {
     let (number, rest) = u64_at(bytes)?;
     let (next, taken) = free(expected.next, expected.taken);
@@ -35,7 +36,7 @@ pub(crate) fn entry_at<'a, 't>(
     if number > LAST_NUMBER {
         return Err(Refusal::Left(bytes.len() as u64));
     }
-    let (writes, rest) = changes_at(alloc, most, rest)?;
+    let (writes, rest) = changes_at(alloc, most, live, rest)?;
     let charge = (bytes.len() - rest.len()) as u64 + FRAME;
     if expected.room < charge {
         return Err(Refusal::Left(bytes.len() as u64));

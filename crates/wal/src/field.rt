@@ -1,7 +1,7 @@
 //! Reads the fields at the front of bytes, each with the bytes behind it.
 ghost use Rattle.std.specs.Prelude.{◌≡◌, ◌≤◌, ◌<◌, ◌^◌, length, IfOk};
 ghost use Rattle.hse_fields.specs.LogForm.{longest_name, ValueFits};
-ghost use Rattle.hse_fields.specs.LogReading.{number_of, bytes_of, sized_of, value_of};
+ghost use Rattle.hse_fields.specs.LogReading.{number_of, bytes_of, size_of, sized_of, value_of};
 ghost use Rattle.wal.specs.Given.{Gives, kind_as};
 
 use crate::kind::Kind;
@@ -36,8 +36,9 @@ pub(crate) fn u64_at(bytes: &[u8]) -> Result<(u64, &[u8]), Refusal>
     Ok((number, bytes.split_at(8).1))
 }
 
-fn bytes_at(size: u64, bytes: &[u8]) -> Result<(&[u8], &[u8]), Refusal>
-    ensures { Gives (λ x. (x.0.now, x.1.now)) result (bytes_of size bytes.now) }
+pub(crate) fn bytes_at(size: u64, bytes: &[u8]) -> Result<(&[u8], &[u8]), Refusal>
+    ensures gives { Gives (λ x. (x.0.now, x.1.now)) result (bytes_of size bytes.now) }
+    ensures long { IfOk result (λ x. length x.0.now ≡ size) }
 {
     let taken = take_bytes(bytes, 0, size)?;
     Ok((taken, bytes.split_at(taken.len()).1))
@@ -53,13 +54,13 @@ fn longest(kind: Kind) -> u16
     }
 }
 
-/// The key or prefix behind its length.
-#[tactic(auto, unfolding(hse_fields::specs::LogReading::sized_of))]
-pub(crate) fn name_at(kind: Kind, bytes: &[u8]) -> Result<(&[u8], &[u8]), Refusal>
-    ensures gives { Gives (λ x. (x.0.now, x.1.now)) result
-        (sized_of 2 1 (longest_name (kind_as kind)) bytes.now) }
-    ensures some { IfOk result (λ x. 1 ≤ length x.0.now) }
-    ensures short { IfOk result (λ x. length x.0.now ≤ longest_name (kind_as kind)) }
+/// How many bytes the key or prefix has.
+#[tactic(auto, unfolding(hse_fields::specs::LogReading::size_of))]
+pub(crate) fn size_at(kind: Kind, bytes: &[u8]) -> Result<(u64, &[u8]), Refusal>
+    ensures gives { Gives (λ x. (x.0, x.1.now)) result
+        (size_of 2 1 (longest_name (kind_as kind)) bytes.now) }
+    ensures some { IfOk result (λ x. 1 ≤ x.0) }
+    ensures short { IfOk result (λ x. x.0 ≤ longest_name (kind_as kind)) }
 {
     let (size, rest) = u16_at(bytes)?;
     if size < 1 {
@@ -68,11 +69,11 @@ pub(crate) fn name_at(kind: Kind, bytes: &[u8]) -> Result<(&[u8], &[u8]), Refusa
     if size > longest(kind) {
         return Err(Refusal::Left(bytes.len() as u64));
     }
-    bytes_at(size as u64, rest)
+    Ok((size as u64, rest))
 }
 
 /// The value behind its length.
-#[tactic(auto, unfolding(hse_fields::specs::LogReading::sized_of))]
+#[tactic(auto, unfolding(hse_fields::specs::LogReading::sized_of, hse_fields::specs::LogReading::size_of))]
 fn sized_value_at(most: u64, bytes: &[u8]) -> Result<(&[u8], &[u8]), Refusal>
     ensures gives { Gives (λ x. (x.0.now, x.1.now)) result (sized_of 4 0 most bytes.now) }
     ensures short { IfOk result (λ x. length x.0.now ≤ most) }

@@ -11,6 +11,7 @@ mod expected;
 mod field;
 mod kind;
 mod laws;
+mod live;
 mod order;
 mod payload;
 mod refusal;
@@ -19,8 +20,11 @@ mod segment;
 
 pub use commit::Commit;
 pub use encode::encode_batch;
-pub use laws::{charge_is_length, one_replay};
-pub use replay::replay_segment;
+pub use laws::{
+    charge_is_length, encoded_is_replayed, one_batch_more, one_replay, replayed_is_a_run,
+};
+pub use live::StorePrefix;
+pub use replay::segment_in;
 pub use segment::{Segment, SegmentFault};
 
 #[cfg(test)]

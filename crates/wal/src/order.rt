@@ -1,7 +1,7 @@
 //! Whether a change may stand behind the last one of its commit.
 ghost use Rattle.std.specs.Prelude.{◌≡◌, []};
 ghost use Rattle.hse_fields.specs.LogOrder.{rank, kind_may_follow, store_may_follow, may_follow};
-ghost use Rattle.hse_fields.specs.LogReading.{change};
+ghost use Rattle.hse_fields.specs.LogReading.{change, name_may_follow};
 ghost use Rattle.hse_rows.specs.Change.{target};
 ghost use Rattle.wal.specs.Given.{kind_as};
 ghost use Rattle.wal.specs.Logged.{last_of};
@@ -68,7 +68,7 @@ pub(crate) fn may_store_follow(last: Option<&Write>, kind: Kind, store: u64) -> 
 }
 
 /// Whether a change may of this kind, this store and this name.
-pub(crate) fn may_name_follow(last: Option<&Write>, kind: Kind, store: u64, name: &[u8]) -> bool
+fn may_name_follow(last: Option<&Write>, kind: Kind, store: u64, name: &[u8]) -> bool
     ensures { result ≡ may_follow (last_of last.entry)
         (change (kind_as kind) store name.now []) }
 {
@@ -84,4 +84,21 @@ pub(crate) fn may_name_follow(last: Option<&Write>, kind: Kind, store: u64, name
             )
             .is_lt(),
     }
+}
+
+/// Whether a change may whose name is so many of these bytes. A name that is cut off does not tell.
+#[tactic(auto, unfolding(hse_fields::specs::LogReading::name_may_follow))]
+pub(crate) fn may_front_follow(
+    last: Option<&Write>,
+    kind: Kind,
+    store: u64,
+    size: u64,
+    bytes: &[u8],
+) -> bool
+    ensures { result ≡ name_may_follow (last_of last.entry) (kind_as kind) store size bytes.now }
+{
+    if (bytes.len() as u64) < size {
+        return true;
+    }
+    may_name_follow(last, kind, store, bytes.split_at(size as usize).0)
 }

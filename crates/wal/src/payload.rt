@@ -7,29 +7,30 @@ ghost use Rattle.wal.specs.Given.{Gives, LiesBehind};
 ghost use Rattle.wal.specs.Logged.{entries_of};
 ghost use Rattle.wal.specs.Numbering.{numbering};
 
-use crate::Commit;
 use crate::entry::entry_at;
 use crate::expected::Expected;
 use crate::field::u32_at;
 use crate::refusal::Refusal;
+use crate::{Commit, StorePrefix};
 use std::alloc::Global;
 
 /// So many commits, and what may come after them.
 fn entries_at<'a, 't>(
     alloc: Global,
     most: u64,
+    live: &[StorePrefix],
     expected: Expected<'t>,
     count: u32,
     bytes: &'a [u8],
 ) -> Result<((Vec<Commit>, Expected<'t>), &'a [u8]), Refusal>
     ensures { Gives (λ x. ((entries_of x.0.0.items, numbers_as x.0.1), x.1.now)) result
-        (entries_read numbering most (numbers_as expected.entry) count bytes.now) }
+        (entries_read (numbering live.now) most (numbers_as expected.entry) count bytes.now) }
 {
     let mut commits = Vec::new(alloc);
     let mut next = expected;
     let mut rest = bytes;
     for _ in 0..count {
-        let ((commit, after), behind) = entry_at(alloc, most, next, rest)?;
+        let ((commit, after), behind) = entry_at(alloc, most, live, next, rest)?;
         commits.push(commit)?;
         next = after;
         rest = behind;
@@ -42,17 +43,18 @@ fn entries_at<'a, 't>(
 fn whole_at<'t>(
     alloc: Global,
     most: u64,
+    live: &[StorePrefix],
     expected: Expected<'t>,
     bytes: &[u8],
 ) -> Result<(Vec<Commit>, Expected<'t>), Refusal>
     ensures { Gives (λ x. (entries_of x.0.items, numbers_as x.1)) result
-        (payload_of numbering most (numbers_as expected.entry) bytes.now) }
+        (payload_of (numbering live.now) most (numbers_as expected.entry) bytes.now) }
 {
     let (count, rest) = u32_at(bytes)?;
     if count == 0 {
         return Err(Refusal::Left(bytes.len() as u64));
     }
-    let (read, rest) = entries_at(alloc, most, expected, count, rest)?;
+    let (read, rest) = entries_at(alloc, most, live, expected, count, rest)?;
     if !rest.is_empty() {
         return Err(Refusal::Left(4 + bytes.len() as u64));
     }
@@ -63,16 +65,17 @@ fn whole_at<'t>(
 pub(crate) fn payload_at<'t>(
     alloc: Global,
     most: u64,
+    live: &[StorePrefix],
     expected: Expected<'t>,
     bytes: &[u8],
 ) -> Result<(Vec<Commit>, Expected<'t>), Refusal>
     ensures gives { Gives (λ x. (entries_of x.0.items, numbers_as x.1)) result
-        (payload_of numbering most (numbers_as expected.entry) bytes.now) }
+        (payload_of (numbering live.now) most (numbers_as expected.entry) bytes.now) }
     // The refused field lies in the batch.
     ensures within { IfErr result (LiesBehind (length bytes.now)) }
     // What the commits take of the room.
     ensures charged { IfOk result (λ x. charges (entries_of x.0.items) + x.1.room
         ≡ expected.entry.room) }
 {
-    whole_at(alloc, most, expected, bytes)
+    whole_at(alloc, most, live, expected, bytes)
 }

@@ -6,13 +6,15 @@ use std::alloc::AllocError;
 use thiserror::Error;
 
 /// What a segment holds: its sequence, its commits in the order of their numbers, what they take of
-/// its room in bytes, and the place of the closed gate behind its batches.
+/// its room in bytes, the place of the closed gate behind its batches, and the least number that may
+/// come next, unless it is taken.
 #[derive(Drop)]
 pub struct Segment {
     pub sequence: u64,
     pub commits: Vec<Commit>,
     pub charges: u64,
     pub tail: Tail,
+    pub next: u64,
 }
 
 /// Why a segment was not read.

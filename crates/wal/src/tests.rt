@@ -1,7 +1,9 @@
 use crate::{
-    Commit, Segment, SegmentFault, charge_is_length, encode_batch, one_replay, replay_segment,
+    Commit, Segment, SegmentFault, StorePrefix, charge_is_length, encode_batch,
+    encoded_is_replayed, one_batch_more, one_replay, replayed_is_a_run, segment_in,
 };
-use gate_log::{Region, append, start};
+use gate_log::{Region, append, read_front, start};
+use hse_fields::log_text_is_read_by_rule;
 use hse_rows::{Change, ChangeRef, Key, StoreId, Value, WriteSet};
 use media_disk::MemDisk;
 use std::alloc::Global;
@@ -49,6 +51,7 @@ fn replay(
     most: u64,
     next: u64,
     taken: &[u64],
+    live: &[StorePrefix],
 ) -> Result<Option<Segment>, SegmentFault> {
     let len = disk.bytes().len();
     assert!(rt; len == 128);
@@ -56,7 +59,10 @@ fn replay(
     assert!(rt; size >= 10);
     assert!(rt; size <= 128);
     assert!(rt; next <= 4_611_686_018_427_387_905);
-    replay_segment(alloc, disk, &Region { at: 0, size }, most, next, taken)
+    let Some(front) = read_front(alloc, disk, &Region { at: 0, size })? else {
+        return Ok(None);
+    };
+    Ok(Some(segment_in(alloc, size, most, next, taken, live, front)?))
 }
 
 #[test]
@@ -72,6 +78,10 @@ fn a_batch_of_one_commit_has_these_bytes(rt: HostRuntime) -> Result<(), Fail> {
     assert!(rt; count == 1);
     charge_is_length();
     one_replay();
+    one_batch_more();
+    encoded_is_replayed();
+    replayed_is_a_run();
+    log_text_is_read_by_rule::<u64>();
     let batch = encode_batch(alloc, &[commit])?;
     let len = disk.bytes().len();
     assert!(rt; len == 128);
@@ -88,10 +98,11 @@ fn a_batch_of_one_commit_has_these_bytes(rt: HostRuntime) -> Result<(), Fail> {
 fn a_segment_gives_its_commits(rt: HostRuntime) -> Result<(), Fail> {
     let alloc = rt.alloc();
     let mut disk = damaged(alloc, 0, 0x4f)?;
-    let segment = replay(&rt, alloc, &mut disk, 128, 1, 2, &[])?.ok_or("the head is closed")?;
+    let segment = replay(&rt, alloc, &mut disk, 128, 1, 2, &[], &[])?.ok_or("the head is closed")?;
     assert_eq!(rt; segment.sequence, 1);
     assert_eq!(rt; segment.charges, 61);
     assert_eq!(rt; segment.tail.gate, 47);
+    assert_eq!(rt; segment.next, 3);
     assert_eq!(rt; segment.commits.len(), 1);
     let commit = &segment.commits[0];
     assert_eq!(rt; commit.number, 2);
@@ -105,16 +116,16 @@ fn a_segment_gives_its_commits(rt: HostRuntime) -> Result<(), Fail> {
 #[test]
 fn a_closed_head_is_no_segment(rt: HostRuntime) -> Result<(), Fail> {
     let mut disk = damaged(rt.alloc(), 0, 0)?;
-    assert!(rt; replay(&rt, rt.alloc(), &mut disk, 128, 1, 2, &[])?.is_none());
+    assert!(rt; replay(&rt, rt.alloc(), &mut disk, 128, 1, 2, &[], &[])?.is_none());
     Ok(())
 }
 
 #[test]
 fn taken_numbers_are_skipped(rt: HostRuntime) -> Result<(), Fail> {
     let mut disk = damaged(rt.alloc(), 25, 4)?;
-    let found = replay(&rt, rt.alloc(), &mut disk, 128, 1, 2, &[1, 2, 3, 5])?;
+    let found = replay(&rt, rt.alloc(), &mut disk, 128, 1, 2, &[1, 2, 3, 5], &[])?;
     assert!(rt; found.is_some());
-    let fault = replay(&rt, rt.alloc(), &mut disk, 128, 1, 2, &[2, 5]).err();
+    let fault = replay(&rt, rt.alloc(), &mut disk, 128, 1, 2, &[2, 5], &[]).err();
     assert_eq!(rt; fault, Some(SegmentFault::Damaged(18)));
     Ok(())
 }
@@ -137,7 +148,7 @@ fn each_damaged_field_is_told_by_its_place(rt: HostRuntime) -> Result<(), Fail> 
         (45, 2, 42), // a value that is too long
     ] {
         let mut disk = damaged(rt.alloc(), place, byte)?;
-        let fault = replay(&rt, rt.alloc(), &mut disk, 128, 1, 2, &[]).err();
+        let fault = replay(&rt, rt.alloc(), &mut disk, 128, 1, 2, &[], &[]).err();
         assert_eq!(rt; fault, Some(SegmentFault::Damaged(want)));
     }
     Ok(())
@@ -146,8 +157,93 @@ fn each_damaged_field_is_told_by_its_place(rt: HostRuntime) -> Result<(), Fail> 
 #[test]
 fn a_commit_over_the_room_is_told_by_its_number(rt: HostRuntime) -> Result<(), Fail> {
     let mut disk = damaged(rt.alloc(), 0, 0x4f)?;
-    let fault = replay(&rt, rt.alloc(), &mut disk, 124, 1, 2, &[]).err();
+    let fault = replay(&rt, rt.alloc(), &mut disk, 124, 1, 2, &[], &[]).err();
     assert_eq!(rt; fault, Some(SegmentFault::Damaged(18)));
-    assert!(rt; replay(&rt, rt.alloc(), &mut disk, 125, 1, 2, &[])?.is_some());
+    assert!(rt; replay(&rt, rt.alloc(), &mut disk, 125, 1, 2, &[], &[])?.is_some());
+    Ok(())
+}
+
+/// A started region with the batch of commit 2: a prefix delete of store 1, `bb`.
+const DELETE: [u8; 56] = [
+    0x4f, 0, 0, 0, 0, 0, 0, 0, 1, // head gate, sequence
+    0x4f, 0, 0, 0, 0x1d, // gate, 29 bytes of payload
+    0, 0, 0, 1, // one entry
+    0, 0, 0, 0, 0, 0, 0, 2, 0, 0, 0, 1, // number 2, one change
+    3, 0, 0, 0, 0, 0, 0, 0, 1, // prefix delete, store 1
+    0, 2, 0x62, 0x62, // prefix bb
+    0, // closed gate
+    0, 0, 0, 0, 0, 0, 0, 0, 0, 0, 0, 0,
+];
+
+/// The same with a second prefix delete behind it, `a`, which is out of order.
+const DELETES: [u8; 56] = [
+    0x4f, 0, 0, 0, 0, 0, 0, 0, 1, // head gate, sequence
+    0x4f, 0, 0, 0, 0x29, // gate, 41 bytes of payload
+    0, 0, 0, 1, // one entry
+    0, 0, 0, 0, 0, 0, 0, 2, 0, 0, 0, 2, // number 2, two changes
+    3, 0, 0, 0, 0, 0, 0, 0, 1, // prefix delete, store 1
+    0, 2, 0x62, 0x62, // prefix bb
+    3, 0, 0, 0, 0, 0, 0, 0, 1, // prefix delete, store 1
+    0, 1, 0x61, // prefix a
+    0, // closed gate
+];
+
+/// How bytes with one of them changed are refused, on a device of 128 bytes, where the prefixes of
+/// store 1 have two bytes and those of store 2 three.
+fn refused(
+    rt: &impl Abort,
+    alloc: Global,
+    bytes: &[u8; 56],
+    place: usize,
+    byte: u8,
+) -> Result<Option<SegmentFault>, Fail> {
+    let mut bytes = bytes.to_vec(alloc)?;
+    if let Some(at) = bytes.get_mut(place) {
+        *at = byte;
+    }
+    bytes.extend_from_slice(&[0; 72])?;
+    let mut disk = MemDisk::of(alloc, bytes);
+    let live = [
+        StorePrefix {
+            store: StoreId(2),
+            length: 3,
+        },
+        StorePrefix {
+            store: StoreId(1),
+            length: 2,
+        },
+    ];
+    Ok(replay(rt, alloc, &mut disk, 128, 1, 2, &[], &live).err())
+}
+
+#[test]
+fn a_prefix_of_a_live_store_has_its_length(rt: HostRuntime) -> Result<(), Fail> {
+    let taken = refused(&rt, rt.alloc(), &DELETE, 0, 0x4f)?;
+    assert_eq!(rt; taken, None);
+    let not_live = refused(&rt, rt.alloc(), &DELETE, 38, 3)?;
+    assert_eq!(rt; not_live, None);
+    for (place, byte) in [
+        (40, 1), // one byte, where store 1 has two
+        (38, 2), // two bytes, where store 2 has three
+        (40, 3), // three bytes, the last of them cut off
+        (40, 33), // more than any prefix has
+    ] {
+        let fault = refused(&rt, rt.alloc(), &DELETE, place, byte)?;
+        assert_eq!(rt; fault, Some(SegmentFault::Damaged(39)));
+    }
+    Ok(())
+}
+
+#[test]
+fn of_two_faults_of_a_change_the_lower_place_is_told(rt: HostRuntime) -> Result<(), Fail> {
+    for (place, byte, want) in [
+        (0, 0x4f, 43), // out of order, and of a wrong length
+        (54, 0x63, 52), // of a wrong length
+        (53, 3, 52), // of a wrong length, and cut off
+        (53, 2, 54), // cut off, and its first byte breaks the order
+    ] {
+        let fault = refused(&rt, rt.alloc(), &DELETES, place, byte)?;
+        assert_eq!(rt; fault, Some(SegmentFault::Damaged(want)));
+    }
     Ok(())
 }

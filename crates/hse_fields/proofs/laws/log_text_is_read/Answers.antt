@@ -1,6 +1,7 @@
-use Rattle.std.proofs.Common.{◌≡◌, ◌∙◌, ◌∷◌, [], List, refl, ap, Ok}
-use Rattle.hse_fields.specs.LogReading.{any, payload_of, Follow}
-use Rattle.hse_fields.specs.LogText.{Entry}
+use Rattle.std.proofs.Common.{◌≡◌, ◌∙◌, ◌∷◌, [], ℕ, true, List, length, refl, ap, Ok}
+use Rattle.std.specs.List.{AllByRecursion}
+use Rattle.hse_fields.specs.LogReading.{any, payload_of, Follow, name_fits, PrefixFits, PrefixesFit}
+use Rattle.hse_fields.specs.LogText.{Kind, Change, put, del, pdel, Entry}
 use Rattle.hse_fields.specs.PayloadLaws.{payload_takes, payload_again}
 use Rattle.hse_fields.specs.WithinLaws.{payload_within}
 use Rattle.hse_fields.proofs.laws.log_text_is_read.Goals as goal
@@ -10,16 +11,30 @@ any_follow : (entries : List Entry) → Follow any tt entries tt
 any_follow [] = refl
 any_follow (e ∷ es) = (refl, tt, refl, any_follow es)
 
+-- and their prefix deletes may have any lengths
+one_fits : (kind : Kind) (store size : ℕ) → name_fits any.prefix_fits kind store size ≡ true
+one_fits put store size = refl
+one_fits del store size = refl
+one_fits pdel store size = refl
+
+changes_fit : (cs : List Change) → AllByRecursion (PrefixFits any.prefix_fits) cs
+changes_fit [] = tt
+changes_fit (c ∷ cs) = (one_fits c.kind c.store (length c.name), changes_fit cs)
+
+any_fit : (entries : List Entry) → PrefixesFit any.prefix_fits entries
+any_fit [] = tt
+any_fit (e ∷ es) = (changes_fit e.changes, any_fit es)
+
 pub returns-clause-read : goal.returns-clause-read
 returns-clause-read c = λ most bytes entries small e.
     let t = payload_takes any most tt bytes (entries, tt) small e in (t.0, t.1)
 
 pub returns-clause-spelled : goal.returns-clause-spelled
-returns-clause-spelled c = λ most entries small formed. payload_again any most tt tt entries small formed (any_follow entries)
+returns-clause-spelled c = λ most entries small formed. payload_again any most tt tt entries small formed (any_follow entries) (any_fit entries)
 
 pub returns-clause-refused : goal.returns-clause-refused
 returns-clause-refused c = λ most left bytes entries small e formed spelled.
-    let read : payload_of any most tt bytes ≡ Ok (entries, tt) = ap (payload_of any most tt) spelled ∙ payload_again any most tt tt entries small formed (any_follow entries) in
+    let read : payload_of any most tt bytes ≡ Ok (entries, tt) = ap (payload_of any most tt) spelled ∙ payload_again any most tt tt entries small formed (any_follow entries) (any_fit entries) in
     absurd cc
 
 pub returns-clause-within : goal.returns-clause-within

@@ -22,9 +22,9 @@ returns-in_err-more-clause-gives c =
     let end : c.loop-batch.gate + 5 + c.len.result ≡ c.loop-batch.gate + need_of batch.bytes.items =
     omega (arith, c.len.ensures, c.deref.ensures.len, ap length bytes) in
     let fault = c.in_err-more.field-0.0 in
-    let here = subst (λ (l : List ℕ). Refuses fault (before (c.loop-batch.gate + 5 + c.len.result) (payload_of numbering c.args.most (numbers_as c.loop-batch.next) l))) bytes c.in_err-more.ensures.gives in
-    let refused = subst (λ (e : ℕ). Refuses fault (before e (payload_of numbering c.args.most (numbers_as c.loop-batch.next) batch.bytes.items))) end here in
-    rw (p.1, p.2) (stops fault c.args.most (entries_of c.loop-batch.commits.items) (numbers_as c.loop-batch.next) c.loop-batch.gate c.args.batches.now c.loop-batch.batch-index batch (batches_of c.args.most (numbers_as c.args.expected) 9 (payloads_of c.args.batches.now)) c.loop-batch-test.true c.batch-item.is refused c.loop-batch.invariant.read)
+    let here = subst (λ (l : List ℕ). Refuses fault (before (c.loop-batch.gate + 5 + c.len.result) (payload_of (numbering c.args.live.now) c.args.most (numbers_as c.loop-batch.next) l))) bytes c.in_err-more.ensures.gives in
+    let refused = subst (λ (e : ℕ). Refuses fault (before e (payload_of (numbering c.args.live.now) c.args.most (numbers_as c.loop-batch.next) batch.bytes.items))) end here in
+    rw (p.1, p.2) (stops fault c.args.live.now c.args.most (entries_of c.loop-batch.commits.items) (numbers_as c.loop-batch.next) c.loop-batch.gate c.args.batches.now c.loop-batch.batch-index batch (batches_of c.args.live.now c.args.most (numbers_as c.args.expected) 9 (payloads_of c.args.batches.now)) c.loop-batch-test.true c.batch-item.is refused c.loop-batch.invariant.read)
 
 pub loop-batch-preserved : goal.loop-batch-preserved
 loop-batch-preserved c =
@@ -33,8 +33,8 @@ loop-batch-preserved c =
     let end : c.loop-batch.gate + 5 + c.len.result ≡ c.loop-batch.gate + need_of batch.bytes.items =
     omega (arith, c.len.ensures, c.deref.ensures.len, ap length bytes) in
     let more = entries_of c.in_ok-more.more.items in
-    let here = ap (λ (l : List ℕ). before (c.loop-batch.gate + 5 + c.len.result) (payload_of numbering c.args.most (numbers_as c.loop-batch.next) l)) (sym bytes) ∙ c.in_ok-more.ensures.gives in
-    let read = ap (λ (e : ℕ). before e (payload_of numbering c.args.most (numbers_as c.loop-batch.next) batch.bytes.items)) (sym end) ∙ here in
+    let here = ap (λ (l : List ℕ). before (c.loop-batch.gate + 5 + c.len.result) (payload_of (numbering c.args.live.now) c.args.most (numbers_as c.loop-batch.next) l)) (sym bytes) ∙ c.in_ok-more.ensures.gives in
+    let read = ap (λ (e : ℕ). before e (payload_of (numbering c.args.live.now) c.args.most (numbers_as c.loop-batch.next) batch.bytes.items)) (sym end) ∙ here in
     let added : entries_of c.append.new.self.items ≡ entries_of c.loop-batch.commits.items ++ more =
     ap entries_of c.in_ok-append.ensures.items ∙ map-append entry_of c.loop-batch.commits.items c.in_ok-more.more.items in
     let sums : charges (entries_of c.append.new.self.items) ≡ charges (entries_of c.loop-batch.commits.items) + charges more =
@@ -42,11 +42,11 @@ loop-batch-preserved c =
     let tail = tail_goes_on c.args.batches.now c.loop-batch.batch-index batch c.loop-batch-test.true c.batch-item.is in
     record {
       read = rw (added, end)
-          (goes_on c.args.most (entries_of c.loop-batch.commits.items) (numbers_as c.loop-batch.next) c.loop-batch.gate c.args.batches.now c.loop-batch.batch-index batch more (numbers_as c.in_ok-more.after) (batches_of c.args.most (numbers_as c.args.expected) 9 (payloads_of c.args.batches.now)) c.loop-batch-test.true c.batch-item.is read c.loop-batch.invariant.read);
+          (goes_on c.args.live.now c.args.most (entries_of c.loop-batch.commits.items) (numbers_as c.loop-batch.next) c.loop-batch.gate c.args.batches.now c.loop-batch.batch-index batch more (numbers_as c.in_ok-more.after) (batches_of c.args.live.now c.args.most (numbers_as c.args.expected) 9 (payloads_of c.args.batches.now)) c.loop-batch-test.true c.batch-item.is read c.loop-batch.invariant.read);
       charged = omega (arith, sums, c.in_ok-more.ensures.charged, c.loop-batch.invariant.charged);
       tail = omega (arith, end, tail, c.loop-batch.invariant.tail);
     }
 
 pub returns-clause-gives : goal.returns-clause-gives
 returns-clause-gives c =
-    is_done c.args.most (entries_of c.loop-batch.commits.items) (numbers_as c.loop-batch.next) c.loop-batch.gate c.args.batches.now c.loop-batch.batch-index (batches_of c.args.most (numbers_as c.args.expected) 9 (payloads_of c.args.batches.now)) c.loop-batch-test.false c.loop-batch.invariant.read
+    is_done c.args.live.now c.args.most (entries_of c.loop-batch.commits.items) (numbers_as c.loop-batch.next) c.loop-batch.gate c.args.batches.now c.loop-batch.batch-index (batches_of c.args.live.now c.args.most (numbers_as c.args.expected) 9 (payloads_of c.args.batches.now)) c.loop-batch-test.false c.loop-batch.invariant.read

@@ -11,8 +11,8 @@ use Rattle.wal.proofs.batches.batches_at.Given as goal
 
 abbrev pub invariant-loop-batch : goal.invariant-loop-batch
 invariant-loop-batch l = record {
-  read : with_front (entries_of l.commits.items) (batches_of l.most (numbers_as l.next) l.gate (payloads_of (drop l.batch-index l.batches)))
-      ≡ batches_of l.most (numbers_as l.expected) 9 (payloads_of l.batches);
+  read : with_front (entries_of l.commits.items) (batches_of l.live l.most (numbers_as l.next) l.gate (payloads_of (drop l.batch-index l.batches)))
+      ≡ batches_of l.live l.most (numbers_as l.expected) 9 (payloads_of l.batches);
   charged : charges (entries_of l.commits.items) + l.next.room ≡ l.expected.room;
   tail : l.gate + sum_by need_of (payloads_of (drop l.batch-index l.batches)) ≡ tail_of (payloads_of l.batches);
 }

@@ -5,6 +5,7 @@ use Rattle.hse_fields.specs.LogText.{Change, change_text}
 use Rattle.hse_fields.specs.LogReading.{change_of, more_changes_of}
 use Rattle.hse_fields.specs.PayloadLaws.{more_changes_take}
 use Rattle.wal.specs.Given.{Fails}
+use Rattle.wal.specs.Live.{prefix_fits}
 use Rattle.wal.specs.Logged.{logged, logged_all}
 use Rattle.std.specs.List.{flat_map}
 use Rattle.wal.proofs.LengthLemmas.{length-all}
@@ -16,33 +17,33 @@ pub returns-in_err-write-clause-gives : goal.returns-in_err-write-clause-gives
 returns-in_err-write-clause-gives c =
     let p = err_from_is_err_and c.from_residual.result c.from_residual.ensures.1 in
     let last = end_is c.last.result c.deref.result.now c.loop.writes.items c.last.ensures.value c.deref.ensures.value in
-    let failed = subst (λ (o : Option Change). Fails c.in_err-write.field-0.0 (change_of c.args.most o c.loop.rest.now)) last c.in_err-write.ensures in
-    rw (p.1, p.2) (stops c.in_err-write.field-0.0 c.args.most (logged_all c.loop.writes.items) (end_of c.loop.writes.items) c.args.count c.loop.counter c.loop.rest.now (more_changes_of c.args.most None c.args.count c.args.bytes.now) c.loop-test.true failed c.loop.invariant)
+    let failed = subst (λ (o : Option Change). Fails c.in_err-write.field-0.0 (change_of (prefix_fits c.args.live.now) c.args.most o c.loop.rest.now)) last c.in_err-write.ensures in
+    rw (p.1, p.2) (stops c.in_err-write.field-0.0 (prefix_fits c.args.live.now) c.args.most (logged_all c.loop.writes.items) (end_of c.loop.writes.items) c.args.count c.loop.counter c.loop.rest.now (more_changes_of (prefix_fits c.args.live.now) c.args.most None c.args.count c.args.bytes.now) c.loop-test.true failed c.loop.invariant)
 
 pub loop-preserved : goal.loop-preserved
 loop-preserved c =
     let w = c.in_ok-write.write in
     let last = end_is c.last.result c.deref.result.now c.loop.writes.items c.last.ensures.value c.deref.ensures.value in
-    let read = ap (λ (o : Option Change). change_of c.args.most o c.loop.rest.now) (sym last) ∙ c.in_ok-write.ensures in
+    let read = ap (λ (o : Option Change). change_of (prefix_fits c.args.live.now) c.args.most o c.loop.rest.now) (sym last) ∙ c.in_ok-write.ensures in
     let pushed : logged_all c.push.new.self.items ≡ logged_all c.loop.writes.items ++ logged w ∷ [] =
     ap logged_all c.in_ok-push.ensures.items ∙ map_push logged c.loop.writes.items w in
     let end : end_of c.push.new.self.items ≡ Some (logged w) = ap end_of c.in_ok-push.ensures.items ∙ end_of-push c.loop.writes.items w in
     rw (pushed, end)
-    (goes_on c.args.most (logged_all c.loop.writes.items) (end_of c.loop.writes.items) c.args.count c.loop.counter c.loop.rest.now (logged w) c.in_ok-write.behind.now (more_changes_of c.args.most None c.args.count c.args.bytes.now) c.loop-test.true read c.loop.invariant)
+    (goes_on (prefix_fits c.args.live.now) c.args.most (logged_all c.loop.writes.items) (end_of c.loop.writes.items) c.args.count c.loop.counter c.loop.rest.now (logged w) c.in_ok-write.behind.now (more_changes_of (prefix_fits c.args.live.now) c.args.most None c.args.count c.args.bytes.now) c.loop-test.true read c.loop.invariant)
 
 pub returns-clause-gives : goal.returns-clause-gives
 returns-clause-gives c =
-    is_done c.args.most (logged_all c.loop.writes.items) (end_of c.loop.writes.items) c.args.count c.loop.counter c.loop.rest.now (more_changes_of c.args.most None c.args.count c.args.bytes.now) c.loop-test.false c.loop.invariant
+    is_done (prefix_fits c.args.live.now) c.args.most (logged_all c.loop.writes.items) (end_of c.loop.writes.items) c.args.count c.loop.counter c.loop.rest.now (more_changes_of (prefix_fits c.args.live.now) c.args.most None c.args.count c.args.bytes.now) c.loop-test.false c.loop.invariant
 
 pub returns-clause-sorted : goal.returns-clause-sorted
 returns-clause-sorted c =
-    let read = is_done c.args.most (logged_all c.loop.writes.items) (end_of c.loop.writes.items) c.args.count c.loop.counter c.loop.rest.now (more_changes_of c.args.most None c.args.count c.args.bytes.now) c.loop-test.false c.loop.invariant in
+    let read = is_done (prefix_fits c.args.live.now) c.args.most (logged_all c.loop.writes.items) (end_of c.loop.writes.items) c.args.count c.loop.counter c.loop.rest.now (more_changes_of (prefix_fits c.args.live.now) c.args.most None c.args.count c.args.bytes.now) c.loop-test.false c.loop.invariant in
     rising c.loop.writes.items
-    (more_changes_take c.args.most None c.args.count c.args.bytes.now (logged_all c.loop.writes.items, c.loop.rest.now) (λ i. omega (arith, c.type_inv.bytes i)) read).in_order
+    (more_changes_take (prefix_fits c.args.live.now) c.args.most None c.args.count c.args.bytes.now (logged_all c.loop.writes.items, c.loop.rest.now) (λ i. omega (arith, c.type_inv.bytes i)) read).in_order
 
 pub returns-clause-counted : goal.returns-clause-counted
 returns-clause-counted c =
-    let read = is_done c.args.most (logged_all c.loop.writes.items) (end_of c.loop.writes.items) c.args.count c.loop.counter c.loop.rest.now (more_changes_of c.args.most None c.args.count c.args.bytes.now) c.loop-test.false c.loop.invariant in
-    let taken = (more_changes_take c.args.most None c.args.count c.args.bytes.now (logged_all c.loop.writes.items, c.loop.rest.now) (λ i. omega (arith, c.type_inv.bytes i)) read).taken in
+    let read = is_done (prefix_fits c.args.live.now) c.args.most (logged_all c.loop.writes.items) (end_of c.loop.writes.items) c.args.count c.loop.counter c.loop.rest.now (more_changes_of (prefix_fits c.args.live.now) c.args.most None c.args.count c.args.bytes.now) c.loop-test.false c.loop.invariant in
+    let taken = (more_changes_take (prefix_fits c.args.live.now) c.args.most None c.args.count c.args.bytes.now (logged_all c.loop.writes.items, c.loop.rest.now) (λ i. omega (arith, c.type_inv.bytes i)) read).taken in
     let long = ap length taken.parts ∙ length-append (flat_map change_text (logged_all c.loop.writes.items)) c.loop.rest.now in
     omega (arith, long, length-all c.loop.writes.items)

@@ -11,7 +11,7 @@ use Rattle.wal.proofs.payload.entries_at.Goals as goal
 pub returns-in_err-commit : goal.returns-in_err-commit
 returns-in_err-commit c =
     let p = err_from_is_err_and c.from_residual.result c.from_residual.ensures.1 in
-    rw (p.1, p.2) (stops c.in_err-commit.field-0.0 c.args.most (entries_of c.loop.commits.items) (numbers_as c.loop.next) c.args.count c.loop.counter c.loop.rest.now (entries_read numbering c.args.most (numbers_as c.args.expected) c.args.count c.args.bytes.now) c.loop-test.true c.in_err-commit.ensures c.loop.invariant)
+    rw (p.1, p.2) (stops c.in_err-commit.field-0.0 c.args.live.now c.args.most (entries_of c.loop.commits.items) (numbers_as c.loop.next) c.args.count c.loop.counter c.loop.rest.now (entries_read (numbering c.args.live.now) c.args.most (numbers_as c.args.expected) c.args.count c.args.bytes.now) c.loop-test.true c.in_err-commit.ensures c.loop.invariant)
 
 pub loop-preserved : goal.loop-preserved
 loop-preserved c =
@@ -19,8 +19,8 @@ loop-preserved c =
     let pushed : entries_of c.push.new.self.items ≡ entries_of c.loop.commits.items ++ entry_of commit ∷ [] =
     ap entries_of c.in_ok-push.ensures.items ∙ map_push entry_of c.loop.commits.items commit in
     rw pushed
-    (goes_on c.args.most (entries_of c.loop.commits.items) (numbers_as c.loop.next) c.args.count c.loop.counter c.loop.rest.now (entry_of commit) (numbers_as c.in_ok-commit.after) c.in_ok-commit.behind.now (entries_read numbering c.args.most (numbers_as c.args.expected) c.args.count c.args.bytes.now) c.loop-test.true c.in_ok-commit.ensures c.loop.invariant)
+    (goes_on c.args.live.now c.args.most (entries_of c.loop.commits.items) (numbers_as c.loop.next) c.args.count c.loop.counter c.loop.rest.now (entry_of commit) (numbers_as c.in_ok-commit.after) c.in_ok-commit.behind.now (entries_read (numbering c.args.live.now) c.args.most (numbers_as c.args.expected) c.args.count c.args.bytes.now) c.loop-test.true c.in_ok-commit.ensures c.loop.invariant)
 
 pub returns : goal.returns
 returns c =
-    is_done c.args.most (entries_of c.loop.commits.items) (numbers_as c.loop.next) c.args.count c.loop.counter c.loop.rest.now (entries_read numbering c.args.most (numbers_as c.args.expected) c.args.count c.args.bytes.now) c.loop-test.false c.loop.invariant
+    is_done c.args.live.now c.args.most (entries_of c.loop.commits.items) (numbers_as c.loop.next) c.args.count c.loop.counter c.loop.rest.now (entries_read (numbering c.args.live.now) c.args.most (numbers_as c.args.expected) c.args.count c.args.bytes.now) c.loop-test.false c.loop.invariant

@@ -8,5 +8,5 @@ use Rattle.wal.proofs.payload.entries_at.Given as goal
 
 abbrev pub invariant-loop : goal.invariant-loop
 invariant-loop l =
-    with_front (entries_of l.commits.items) (entries_read numbering l.most (numbers_as l.next) (l.count - l.counter) l.rest)
-    ≡ entries_read numbering l.most (numbers_as l.expected) l.count l.bytes
+    with_front (entries_of l.commits.items) (entries_read (numbering l.live) l.most (numbers_as l.next) (l.count - l.counter) l.rest)
+    ≡ entries_read (numbering l.live) l.most (numbers_as l.expected) l.count l.bytes

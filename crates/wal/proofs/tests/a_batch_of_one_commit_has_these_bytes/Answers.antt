@@ -1,4 +1,4 @@
-use Rattle.std.proofs.Common.{◌≡◌, ◌<◌, ◌≤◌, ℕ, zero, suc, [], ◌∷◌, length, get_or, arith}
+use Rattle.std.proofs.Common.{◌<◌, ◌≤◌, ℕ, zero, suc, [], ◌∷◌, length, get_or, arith}
 use Rattle.wal.specs.declared.commit.Commit.{Commit}
 use Rattle.wal.proofs.tests.a_batch_of_one_commit_has_these_bytes.Goals as goal
 

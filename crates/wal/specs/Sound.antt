@@ -1,0 +1,30 @@
+-- What a segment is that was read of a front, whatever the device tells.
+use Rattle.std.specs.Prelude.{◌≡◌, ℕ, ◌+◌, ◌-◌, ◌*◌, ◌<◌, ◌≤◌, List, [], length}
+use Rattle.std.specs.List.{All}
+use Rattle.gate_log.specs.Places.{tail_of}
+use Rattle.gate_log.specs.Reading.{payloads_of}
+use Rattle.gate_log.specs.declared.front.End.TheVariants.{Closed}
+use Rattle.gate_log.specs.declared.front.Front.{Front}
+use Rattle.wal.specs.Charges.{charges}
+use Rattle.wal.specs.Logged.{entries_of}
+use Rattle.wal.specs.Numbered.{AreNumbered}
+use Rattle.wal.specs.Numbering.{last_number}
+use Rattle.wal.specs.declared.commit.Commit.{Commit}
+use Rattle.wal.specs.declared.segment.Segment.{Segment}
+
+pub record IsSound (size first : ℕ) (taken : List ℕ) (front : Front) (segment : Segment) : Type 0 where
+  pub sequence : segment.sequence ≡ front.sequence
+  -- its gate stands behind the batches, inside the region
+  pub closed : front.end ≡ Closed segment.tail
+  pub behind : segment.tail.gate ≡ tail_of (payloads_of front.batches.items)
+  pub inside : segment.tail.gate < size
+  -- the commits' charges fit, and each takes at least 44 bytes
+  pub charged : segment.charges ≡ charges (entries_of segment.commits.items)
+  pub fits : segment.charges ≤ size - 64
+  pub counted : 44 * length segment.commits.items ≤ segment.charges
+  -- no number is above the greatest one
+  pub numbers : All (λ (c : Commit). c.number ≤ last_number) segment.commits.items
+  pub small : segment.next ≤ last_number + 1
+  -- where no number is taken the commits are numbered one after another
+  pub numbered : taken ≡ [] → AreNumbered first (entries_of segment.commits.items)
+  pub consecutive : taken ≡ [] → segment.next ≡ first + length segment.commits.items
