@@ -1,10 +1,12 @@
 //! `hse run PATH`: a store on a file, asked by a script on standard input that is answered on standard output.
 #![tactic(auto)]
 
-mod file_disk;
 #[cfg(test)]
 mod tests;
 mod top;
+
+ghost use Rattle.std.specs.Prelude.{◌≡◌, map, string_bytes, IfOk};
+ghost use Rattle.hse.specs.Words.{AsksRun};
 
 use file_disk::FileDisk;
 use hse_io::{NoMemory, Status, StdSink, StdSource};
@@ -20,6 +22,9 @@ use top::{device_path, top};
 fn run<R>(rt: &R, words: &[String]) -> Result<Status, NoMemory>
 where
     R: Files<File = File> + AllocGlobal + Print + Input + Clone,
+    // Other words than the program's are a faulty command line, and only they.
+    ensures usage { IfOk result (λ status. (AsksRun (map string_bytes words.now) → ⊥) → status ≡ Status.Usage) }
+    ensures usage_only { IfOk result (λ status. status ≡ Status.Usage → AsksRun (map string_bytes words.now) → ⊥) }
 {
     let alloc = rt.alloc();
     let mut source = StdSource::new(alloc, rt.reader())?;

@@ -368,3 +368,52 @@ fn a_script_ends_before_its_lines_have_2_to_the_40_bytes(rt: HostRuntime) -> Res
     assert_eq!(rt; source.lines, 262_144);
     Ok(())
 }
+
+/// How many pieces of memory are held at most.
+const PIECES: usize = 1 << 17;
+
+/// Takes pieces of this size while there are any, and while there is room to hold them.
+fn take_all(alloc: Global, size: usize, held: &mut Vec<Vec<u8>>) {
+    for _ in 0..PIECES {
+        if held.len() == held.capacity() {
+            return;
+        }
+        let Ok(piece) = Vec::with_capacity(alloc, size) else {
+            return;
+        };
+        let _ = held.push(piece);
+    }
+}
+
+/// All memory that the system gives this process, in pieces of falling size. It goes back where this is dropped.
+fn all_memory(alloc: Global) -> Result<Vec<Vec<u8>>, AllocError> {
+    let mut held = Vec::with_capacity(alloc, PIECES)?;
+    let mut size = 1usize << 47;
+    for _ in 0..44 {
+        take_all(alloc, size, &mut held);
+        size /= 2;
+    }
+    Ok(held)
+}
+
+#[test]
+fn a_run_that_gets_no_memory_tells_it(rt: HostRuntime) -> Result<(), Fail> {
+    let alloc = rt.alloc();
+    let words = words(alloc, "run")?;
+    let mut source = MemSource::of(SCRIPT.to_vec(alloc)?, Vec::new(alloc));
+    let mut sink = MemSink::new(alloc, Vec::new(alloc));
+    let mut disk = MemDisk::new(alloc);
+    let held = all_memory(alloc)?;
+    let outcome = top(alloc, &words, &mut source, &mut sink, &mut disk);
+    drop(held);
+    assert!(rt; outcome.status == Status::NoMemory);
+    assert!(rt; disk.calls().is_empty());
+    // The line that tells it is written, or the sink has no memory for it either.
+    let told = sink.bytes() == b"fault memory\n".as_slice();
+    assert!(rt; told || sink.bytes().is_empty() && sink.refused() == 1);
+    // With memory again the same objects are of use.
+    let outcome = top(alloc, &words, &mut source, &mut sink, &mut disk);
+    assert!(rt; outcome.status == Status::Done);
+    assert_eq!(rt; disk.calls().len(), 13);
+    Ok(())
+}

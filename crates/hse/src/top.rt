@@ -74,6 +74,7 @@ pub fn top<S: Source, K: Sink, D: Disk>(
     ensures write { result.status ≡ Status.WriteFault → Rose (K.faults sink.old) (K.faults sink.new) }
     ensures device { result.status ≡ Status.DeviceFault → Rose (D.faults disk.old) (D.faults disk.new) }
     ensures at_once { D.faults disk.old < D.faults disk.new → result.status ≡ Status.DeviceFault }
+    ensures last { result.status ≡ Status.DeviceFault → D.failed_at disk.new ≡ D.moment disk.new }
     ensures complete { AsksRun (map string_bytes words.now)
         → D.tells → D.seen disk.old ≡ [] → IsGoodInput (S.remaining source.old)
         → ¬ Rose (S.faults source.old) (S.faults source.new) → ¬ Rose (K.faults sink.old) (K.faults sink.new)

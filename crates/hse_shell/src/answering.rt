@@ -31,6 +31,7 @@ pub(crate) fn answer<K: Sink, D: Disk>(
     ensures write { IsErrOf result Status.WriteFault → Rose (K.faults sink.old) (K.faults sink.new) }
     ensures device { IsErrOf result Status.DeviceFault → Rose (D.faults disk.old) (D.faults disk.new) }
     ensures at_once { D.faults disk.old < D.faults disk.new → IsErrOf result Status.DeviceFault }
+    ensures last { IsErrOf result Status.DeviceFault → D.failed_at disk.new ≡ D.moment disk.new }
     ensures later { (K.faults sink.old ≤ K.faults sink.new) × (D.faults disk.old ≤ D.faults disk.new) }
     ensures extent { D.extent disk.new ≡ D.extent disk.old }
 {

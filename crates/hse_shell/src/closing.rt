@@ -28,6 +28,7 @@ pub(crate) fn close<K: Sink, D: Disk>(
     ensures write { result ≡ Status.WriteFault → Rose (K.faults sink.old) (K.faults sink.new) }
     ensures device { result ≡ Status.DeviceFault → Rose (D.faults disk.old) (D.faults disk.new) }
     ensures at_once { D.faults disk.old < D.faults disk.new → result ≡ Status.DeviceFault }
+    ensures last { result ≡ Status.DeviceFault → D.failed_at disk.new ≡ D.moment disk.new }
     ensures later { (K.faults sink.old ≤ K.faults sink.new) × (D.faults disk.old ≤ D.faults disk.new) }
 {
     match engine.flush(alloc, disk) {

@@ -65,6 +65,7 @@ impl Engine {
         ensures idle { self.old.count ≡ 0 → disk.new ≡ disk.old }
         ensures asked { IsErrOf result FlushFault.Device → self.old.count ≢ 0 }
         ensures at_once { D.faults disk.old < D.faults disk.new → IsErrOf result FlushFault.Device }
+        ensures last { IsErrOf result FlushFault.Device → D.failed_at disk.new ≡ D.moment disk.new }
         ensures extent { D.extent disk.new ≡ D.extent disk.old }
         ensures number { self.new.number ≡ self.old.number }
         ensures marks { self.new.marks ≡ self.old.marks }
@@ -116,6 +117,7 @@ impl Engine {
         ensures noted { (n : ℕ) → result ≡ Ok (Reply.Ok n) → self.new.marks.items ≡ self.old.marks.items
             ++ (record { life = 0; number = n; moment = D.moment disk.new }) ∷ [] }
         ensures cause { HasCause (D.faults disk.old) (D.faults disk.new) result }
+        ensures last { OnErr result (D.failed_at disk.new ≡ D.moment disk.new) }
         ensures asked { OnErr result (self.old.count ≢ 0) }
         ensures extent { D.extent disk.new ≡ D.extent disk.old }
     {

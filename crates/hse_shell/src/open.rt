@@ -1,5 +1,5 @@
 //! Opens an empty device.
-ghost use Rattle.std.specs.Prelude.{◌≡◌, ◌≢◌, ℕ, ◌<◌, ◌≤◌, [], IfOk, OnOk, IsErrOf};
+ghost use Rattle.std.specs.Prelude.{◌≡◌, ◌≢◌, ℕ, ◌<◌, ◌≤◌, [], IfOk, OnOk, OnErr, IsErrOf};
 ghost use Rattle.hse_io.specs.Faults.{Rose, HasCause};
 ghost use Rattle.hse_shell.specs.Machine.{opening};
 ghost use Rattle.hse_shell.specs.Logged.{Serves, IsStarted, IsUntouched, WasEmptyOrStays};
@@ -39,6 +39,7 @@ fn give_size<D: Disk>(disk: &mut D, size: u64) -> Result<(), Failed>
     ensures sized { OnOk result (D.extent disk.new ≡ size) }
     ensures durable { D.tells → OnOk result (D.pending disk.new ≡ []) }
     ensures cause { HasCause (D.faults disk.old) (D.faults disk.new) result }
+    ensures last { OnErr result (D.failed_at disk.new ≡ D.moment disk.new) }
 {
     disk.set_size(size)?;
     disk.sync()?;
@@ -52,6 +53,7 @@ fn measure<D: Disk>(disk: &mut D) -> Result<u64, Failed>
     ensures extent { IfOk result (λ size. D.extent disk.new ≡ size) }
     ensures seen { D.tells → D.seen disk.new ≡ D.seen disk.old }
     ensures cause { HasCause (D.faults disk.old) (D.faults disk.new) result }
+    ensures last { OnErr result (D.failed_at disk.new ≡ D.moment disk.new) }
 {
     disk.size()
 }
@@ -66,6 +68,7 @@ fn format<D: Disk>(disk: &mut D) -> Result<Tail, OpenFault>
     ensures kept { WasEmptyOrStays D.Disk disk.old disk.new }
     ensures memory { IsErrOf result OpenFault.NoMemory → ⊥ }
     ensures at_once { D.faults disk.old < D.faults disk.new → IsErrOf result OpenFault.Device }
+    ensures last { IsErrOf result OpenFault.Device → D.failed_at disk.new ≡ D.moment disk.new }
     ensures later { D.faults disk.old ≤ D.faults disk.new }
 {
     let size = measure(disk)?;
@@ -84,6 +87,7 @@ pub(crate) fn open<D: Disk>(alloc: Global, disk: &mut D) -> Result<Engine, OpenF
     ensures not_empty { (size : ℕ) → IsErrOf result (OpenFault.NotEmpty size) → (size ≢ 0) × IsUntouched D.Disk disk.old disk.new size }
     ensures device { IsErrOf result OpenFault.Device → Rose (D.faults disk.old) (D.faults disk.new) }
     ensures at_once { D.faults disk.old < D.faults disk.new → IsErrOf result OpenFault.Device }
+    ensures last { IsErrOf result OpenFault.Device → D.failed_at disk.new ≡ D.moment disk.new }
     ensures later { D.faults disk.old ≤ D.faults disk.new }
 {
     let Ok(marks) = Vec::with_capacity(alloc, 1) else {

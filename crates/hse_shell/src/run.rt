@@ -64,6 +64,7 @@ fn serve<S: Source, K: Sink, D: Disk>(
     ensures write { result ≡ Status.WriteFault → Rose (K.faults sink.old) (K.faults sink.new) }
     ensures device { result ≡ Status.DeviceFault → Rose (D.faults disk.old) (D.faults disk.new) }
     ensures at_once { D.faults disk.old < D.faults disk.new → result ≡ Status.DeviceFault }
+    ensures last { result ≡ Status.DeviceFault → D.failed_at disk.new ≡ D.moment disk.new }
     ensures kept { WasEmptyOrStays D.Disk disk.old disk.new }
     ensures later { K.faults sink.old ≤ K.faults sink.new }
 {
@@ -105,6 +106,7 @@ pub fn run_script<S: Source, K: Sink, D: Disk>(
     ensures device { result.status ≡ Status.DeviceFault → Rose (D.faults disk.old) (D.faults disk.new) }
     // A device that has failed ends the run at once.
     ensures at_once { D.faults disk.old < D.faults disk.new → result.status ≡ Status.DeviceFault }
+    ensures last { result.status ≡ Status.DeviceFault → D.failed_at disk.new ≡ D.moment disk.new }
 
     // Where no count rose, lines within their limits on an empty device are run to their end, or memory is refused.
     ensures complete { D.tells → D.seen disk.old ≡ [] → IsGoodInput (S.remaining source.old)

@@ -69,6 +69,7 @@ fn advance<S: Source, K: Sink, D: Disk>(
     ensures write { IsErrOf result Status.WriteFault → Rose (K.faults sink.old) (K.faults sink.new) }
     ensures device { IsErrOf result Status.DeviceFault → Rose (D.faults disk.old) (D.faults disk.new) }
     ensures at_once { D.faults disk.old < D.faults disk.new → IsErrOf result Status.DeviceFault }
+    ensures last { IsErrOf result Status.DeviceFault → D.failed_at disk.new ≡ D.moment disk.new }
     // Each line that is taken counts a byte at least.
     ensures counts { result ≡ Ok Got.Text → script.old.taken < script.new.taken }
     ensures later { (S.faults source.old ≤ S.faults source.new) × (K.faults sink.old ≤ K.faults sink.new)
@@ -111,6 +112,7 @@ pub(crate) fn answer_all<S: Source, K: Sink, D: Disk>(
     ensures write { result ≡ Status.WriteFault → Rose (K.faults sink.old) (K.faults sink.new) }
     ensures device { result ≡ Status.DeviceFault → Rose (D.faults disk.old) (D.faults disk.new) }
     ensures at_once { D.faults disk.old < D.faults disk.new → result ≡ Status.DeviceFault }
+    ensures last { result ≡ Status.DeviceFault → D.failed_at disk.new ≡ D.moment disk.new }
     ensures later { K.faults sink.old ≤ K.faults sink.new }
 {
     'lines: loop {

@@ -81,6 +81,7 @@ fn sync_line<D: Disk>(
     ensures device { IsErrOf result Stop.Device → Rose (D.faults disk.old) (D.faults disk.new) }
     ensures asked { IsErrOf result Stop.Device → engine.old.count ≢ 0 }
     ensures at_once { D.faults disk.old < D.faults disk.new → IsErrOf result Stop.Device }
+    ensures last { IsErrOf result Stop.Device → D.failed_at disk.new ≡ D.moment disk.new }
     ensures later { D.faults disk.old ≤ D.faults disk.new }
     ensures extent { D.extent disk.new ≡ D.extent disk.old }
 {
@@ -107,6 +108,7 @@ pub(crate) fn turn<D: Disk>(
     ensures sync { IsErrOf result Stop.Device → Means line.now syncs }
     ensures asked { IsErrOf result Stop.Device → engine.old.count ≢ 0 }
     ensures at_once { D.faults disk.old < D.faults disk.new → IsErrOf result Stop.Device }
+    ensures last { IsErrOf result Stop.Device → D.failed_at disk.new ≡ D.moment disk.new }
     ensures spoken { IsErrOf result Stop.NoMemory → IsSilent line.now → ⊥ }
     ensures later { D.faults disk.old ≤ D.faults disk.new }
     ensures extent { D.extent disk.new ≡ D.extent disk.old }

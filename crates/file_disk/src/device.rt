@@ -1,0 +1,143 @@
+//! The calls of a disk, over those of the system.
+ghost use Rattle.std.specs.Prelude.{◌≡◌, ◌+◌, ◌-◌, ◌^◌, ◌≤◌, length, IfOk, OnOk, OnErr, IsErr};
+ghost use Rattle.hse_io.specs.Faults.{HasCause, next_count};
+ghost use Rattle.file_disk.specs.FileState.{KeepsFile};
+
+use crate::FileDisk;
+use media_disk::{Disk, Failed};
+use std::fs::File;
+use std::io;
+use std::os::unix::fs::FileExt;
+use std::rt::Files;
+
+// Gives an empty file a size. One that holds something stays as it is, and the call fails.
+fn grow(file: &File, size: u64) -> io::Result<()>
+    ensures { 2 ^ 63 ≤ size → IsErr result }
+{
+    if file.metadata()?.len() > 0 {
+        return Err(io::ErrorKind::InvalidInput.into());
+    }
+    file.set_len(size)
+}
+
+impl<R: Files<File = File> + Drop> Disk for FileDisk<R> {
+    ghost use Rattle.std.specs.Prelude.{[]};
+
+    ghost tells = { ⊥ };
+
+    ghost seen = { λ _. [] };
+
+    ghost pending = { λ _. [] };
+
+    ghost extent = { λ disk. disk.extent };
+
+    ghost faults = { λ disk. disk.faults };
+
+    ghost moment = { λ disk. disk.clock };
+
+    ghost failed_at = { λ disk. disk.failed_at };
+
+    ghost could = { λ _ _ _. ⊥ };
+
+    ghost as_long = { λ _ told. absurd told };
+
+    ghost counts_now = { λ _ _ _ told _ _. absurd told };
+
+    ghost only_now = { λ _ _ told _. absurd told };
+
+    fn size(&mut self) -> Result<u64, Failed>
+        ensures size { IfOk result (λ n. n ≡ self.new.extent) }
+        ensures extent { OnErr result (self.new.extent ≡ self.old.extent) }
+        ensures clock { self.new.clock ≡ next_count self.old.clock }
+        ensures forward { self.old.clock ≤ self.new.clock }
+        ensures spent { self.old.clock ≡ 2 ^ 64 - 1 → IsErr result }
+        ensures failed { OnErr result (self.new.failed_at ≡ self.new.clock) }
+        ensures unfailed { OnOk result (self.new.failed_at ≡ self.old.failed_at) }
+        ensures cause { HasCause self.old.faults self.new.faults result }
+        ensures counts { OnErr result (self.new.faults ≡ next_count self.old.faults) }
+        ensures file { KeepsFile self.old self.new result }
+    {
+        self.begin()?;
+        let told = self.opened().metadata();
+        let length = self.answer(told)?.len();
+        self.extent = length;
+        Ok(length)
+    }
+
+    fn set_size(&mut self, size: u64) -> Result<(), Failed>
+        requires empty { self.old.extent ≡ 0 }
+        requires some { 1 ≤ size }
+        ensures extent { OnOk result (self.new.extent ≡ size) }
+        ensures extent_err { OnErr result (self.new.extent ≡ self.old.extent) }
+        ensures too_large { 2 ^ 63 ≤ size → IsErr result }
+        ensures clock { self.new.clock ≡ next_count self.old.clock }
+        ensures forward { self.old.clock ≤ self.new.clock }
+        ensures spent { self.old.clock ≡ 2 ^ 64 - 1 → IsErr result }
+        ensures failed { OnErr result (self.new.failed_at ≡ self.new.clock) }
+        ensures unfailed { OnOk result (self.new.failed_at ≡ self.old.failed_at) }
+        ensures cause { HasCause self.old.faults self.new.faults result }
+        ensures counts { OnErr result (self.new.faults ≡ next_count self.old.faults) }
+        ensures file { KeepsFile self.old self.new result }
+    {
+        self.begin()?;
+        let done = grow(self.opened(), size);
+        self.answer(done)?;
+        self.extent = size;
+        Ok(())
+    }
+
+    fn read(&mut self, at: u64, into: &mut [u8]) -> Result<(), Failed>
+        requires { at + length into.old ≤ self.old.extent }
+        ensures extent { self.new.extent ≡ self.old.extent }
+        ensures clock { self.new.clock ≡ next_count self.old.clock }
+        ensures forward { self.old.clock ≤ self.new.clock }
+        ensures spent { self.old.clock ≡ 2 ^ 64 - 1 → IsErr result }
+        ensures failed { OnErr result (self.new.failed_at ≡ self.new.clock) }
+        ensures unfailed { OnOk result (self.new.failed_at ≡ self.old.failed_at) }
+        ensures cause { HasCause self.old.faults self.new.faults result }
+        ensures counts { OnErr result (self.new.faults ≡ next_count self.old.faults) }
+        ensures file { KeepsFile self.old self.new result }
+    {
+        self.begin()?;
+        let done = self.opened().read_exact_at(into, at);
+        self.answer(done)
+    }
+
+    fn write(&mut self, at: u64, bytes: &[u8]) -> Result<(), Failed>
+        requires { at + length bytes.now ≤ self.old.extent }
+        ensures extent { self.new.extent ≡ self.old.extent }
+        ensures clock { self.new.clock ≡ next_count self.old.clock }
+        ensures forward { self.old.clock ≤ self.new.clock }
+        ensures spent { self.old.clock ≡ 2 ^ 64 - 1 → IsErr result }
+        ensures failed { OnErr result (self.new.failed_at ≡ self.new.clock) }
+        ensures unfailed { OnOk result (self.new.failed_at ≡ self.old.failed_at) }
+        ensures cause { HasCause self.old.faults self.new.faults result }
+        ensures counts { OnErr result (self.new.faults ≡ next_count self.old.faults) }
+        ensures file { KeepsFile self.old self.new result }
+    {
+        self.begin()?;
+        let done = self.opened().write_all_at(bytes, at);
+        self.answer(done)
+    }
+
+    // The data, and the length with them.
+    fn sync(&mut self) -> Result<(), Failed>
+        ensures extent { self.new.extent ≡ self.old.extent }
+        ensures clock { self.new.clock ≡ next_count self.old.clock }
+        ensures forward { self.old.clock ≤ self.new.clock }
+        ensures spent { self.old.clock ≡ 2 ^ 64 - 1 → IsErr result }
+        ensures failed { OnErr result (self.new.failed_at ≡ self.new.clock) }
+        ensures unfailed { OnOk result (self.new.failed_at ≡ self.old.failed_at) }
+        ensures cause { HasCause self.old.faults self.new.faults result }
+        ensures counts { OnErr result (self.new.faults ≡ next_count self.old.faults) }
+        ensures file { KeepsFile self.old self.new result }
+    {
+        self.begin()?;
+        let done = self.opened().sync_all();
+        self.answer(done)
+    }
+
+    fn clock(&self) -> u64 {
+        self.clock
+    }
+}

@@ -1,0 +1,142 @@
+//! The file, its opening and its counts.
+ghost use Rattle.std.specs.Prelude.{◌≡◌, true};
+ghost use Rattle.std.specs.Fs.{new_options, with_create, with_read, with_write};
+
+use hse_io::NoMemory;
+use media_disk::Failed;
+use std::alloc::Global;
+use std::fs::{File, OpenOptions};
+use std::io;
+use std::marker::Model;
+use std::rt::Files;
+
+/// A file that is opened at its first call, and made where there is none. What it holds is kept.
+#[derive(Drop)]
+pub struct FileDisk<R: Files<File = File>> {
+    rt: R,
+    path: String,
+    file: Option<File>,
+    pub(crate) extent: u64,
+    pub(crate) faults: u64,
+    pub(crate) clock: u64,
+    pub(crate) failed_at: u64,
+}
+
+impl<R: Files<File = File>> Model for FileDisk<R> {
+    ghost use Rattle.std.specs.Prelude.{option_map, string_bytes};
+    ghost use Rattle.std.specs.Fd.{file_raw_fd};
+    ghost use Rattle.file_disk.specs.FileState.{FileState};
+
+    ghost Value = { FileState };
+
+    ghost view = { λ s. record {
+      path = string_bytes s.path;
+      descriptor = option_map file_raw_fd s.file;
+      extent = s.extent;
+      faults = s.faults;
+      clock = s.clock;
+      failed_at = s.failed_at;
+    } };
+}
+
+// To read and to write, made where there is none, and not cut where there is one.
+fn kept() -> OpenOptions
+    ensures { result ≡ with_create (with_write (with_read new_options true) true) true }
+{
+    let mut options = OpenOptions::new();
+    options.read(true).write(true).create(true);
+    options
+}
+
+impl<R: Files<File = File> + Drop> FileDisk<R> {
+    ghost use Rattle.std.specs.Prelude.{◌-◌, ◌^◌, ◌≤◌, Some, Ok, IfOk, IsOk, IsErr, IsSome, OnOk, OnErr, MatchResult};
+    ghost use Rattle.std.specs.Fd.{file_raw_fd};
+    ghost use Rattle.hse_io.specs.Faults.{HasCause, next_count};
+    ghost use Rattle.file_disk.specs.FileState.{KeepsFile, failed_after, faults_after, untouched};
+
+    /// The file of this path, which is not touched yet.
+    pub fn at(rt: R, alloc: Global, path: &str) -> Result<FileDisk<R>, NoMemory>
+        ensures { IfOk result (λ disk. disk ≡ untouched path.now) }
+    {
+        Ok(FileDisk {
+            rt,
+            path: String::from_str(alloc, path)?,
+            file: None,
+            extent: 0,
+            faults: 0,
+            clock: 0,
+            failed_at: 0,
+        })
+    }
+
+    // Opens the file where that was not done yet.
+    fn open(&mut self) -> io::Result<()>
+        ensures opened { OnOk result (IsSome self.new.descriptor) }
+        ensures stays { IsSome self.old.descriptor → IsOk result }
+        ensures same { IsSome self.old.descriptor → self.new ≡ self.old }
+        ensures failed { OnErr result (self.new ≡ self.old) }
+        ensures others { self.new ≡ record self.old { descriptor = self.new.descriptor } }
+    {
+        if self.file.is_none() {
+            self.file = Some(kept().open(&self.rt, self.path.as_str())?);
+        }
+        Ok(())
+    }
+
+    /// The file, which is open.
+    pub(crate) fn opened(&self) -> &File
+        requires { IsSome self.now.descriptor }
+        ensures { self.now.descriptor ≡ Some (file_raw_fd result.now) }
+    {
+        match &self.file {
+            Some(file) => file,
+            None => unreachable!(),
+        }
+    }
+
+    // Counts a fault of the call before the clock.
+    fn fault(&mut self) -> Failed
+        ensures state { self.new ≡ record self.old { faults = next_count self.old.faults; failed_at = self.old.clock } }
+        ensures later { self.old.faults ≤ self.new.faults }
+    {
+        self.faults = self.faults.saturating_add(1);
+        self.failed_at = self.clock;
+        Failed
+    }
+
+    /// Passes on what the system answered, and counts a fault.
+    pub(crate) fn answer<T: Drop>(&mut self, outcome: io::Result<T>) -> Result<T, Failed>
+        ensures answer { MatchResult outcome (λ told. result ≡ Ok told) (λ error. IsErr result) }
+        ensures state { self.new ≡ record self.old {
+          faults = faults_after self.old.faults outcome;
+          failed_at = failed_after self.old.clock self.old.failed_at outcome;
+        } }
+        ensures cause { HasCause self.old.faults self.new.faults result }
+    {
+        match outcome {
+            Ok(told) => Ok(told),
+            Err(_) => Err(self.fault()),
+        }
+    }
+
+    /// Counts a call, and opens the file where that was not done yet. At the clock's last value the call fails, and
+    /// opens nothing.
+    pub(crate) fn begin(&mut self) -> Result<(), Failed>
+        ensures extent { self.new.extent ≡ self.old.extent }
+        ensures clock { self.new.clock ≡ next_count self.old.clock }
+        ensures forward { self.old.clock ≤ self.new.clock }
+        ensures spent { self.old.clock ≡ 2 ^ 64 - 1 → IsErr result }
+        ensures failed { OnErr result (self.new.failed_at ≡ self.new.clock) }
+        ensures unfailed { OnOk result (self.new.failed_at ≡ self.old.failed_at) }
+        ensures cause { HasCause self.old.faults self.new.faults result }
+        ensures counts { OnErr result (self.new.faults ≡ next_count self.old.faults) }
+        ensures file { KeepsFile self.old self.new result }
+    {
+        if self.clock == u64::MAX {
+            return Err(self.fault());
+        }
+        self.clock += 1;
+        let opened = self.open();
+        self.answer(opened)
+    }
+}
