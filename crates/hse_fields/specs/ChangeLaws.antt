@@ -5,14 +5,14 @@ use Rattle.std.specs.declared.cmp.Ordering.{Ordering}
 use Rattle.std.specs.declared.cmp.Ordering.TheVariants.{Less, Equal, Greater}
 use Rattle.std.specs.Cmp.Lexicographic.{slice_cmp}
 use Rattle.std.proofs.Common.{refl, sym, ap, subst, ◌∙◌, append_assoc, arith, inl, inr, cond}
-use Rattle.std.proofs.lemmas.Bool.{ltb-true, le-leb, lt-ltb, le-ltb, eqb-true}
+use Rattle.std.proofs.lemmas.Bool.{ltb-true, leb-true, le-leb, lt-ltb, le-ltb, eqb-true, and_parts}
 use Rattle.std.proofs.lemmas.List.{take_at}
 use Rattle.byteorder.specs.Endian.{big_bytes}
 use Rattle.hse_fields.specs.LogText.{Kind, put, del, pdel, Change, code, sized, value_text, change_text, head_text}
 use Rattle.hse_fields.specs.LogOrder.{rank, may_follow, kind_may_follow, store_may_follow}
-use Rattle.hse_fields.specs.LogForm.{longest_name, ValueFits, IsChange}
-use Rattle.hse_fields.specs.LogReading.{◌>>=◌, ensure, given, number_of, bytes_of, size_of, kind_with, kind_of, value_of, change, name_may_follow, name_fits, name_of, change_of, PrefixFits}
-use Rattle.hse_fields.specs.FieldLaws.{IsBytes, bind_ok, ensure_ok, given_ok, ok_is, Takes, Takes-then, width_1, width_2, width_4, width_8, number_takes, number_again, bytes_takes, bytes_again, size_takes, size_again, behind_size, sized_takes, sized_again}
+use Rattle.hse_fields.specs.LogForm.{longest_name, longest_value, ValueFits, IsChange}
+use Rattle.hse_fields.specs.LogReading.{◌>>=◌, ensure, given, number_of, bytes_of, kind_with, kind_of, value_of, change, name_may_follow, name_in_limits, name_fits, name_of, change_of, PrefixFits}
+use Rattle.hse_fields.specs.FieldLaws.{IsBytes, bind_ok, ensure_ok, given_ok, ok_is, Takes, Takes-then, width_1, width_2, width_4, width_8, number_takes, number_again, bytes_takes, bytes_again, behind_size, sized_takes, sized_again}
 
 -- ---- the order
 
@@ -118,13 +118,13 @@ unfolding kind_of
 kind_again last kind rest follows = rw (number_again 1 (code kind) rest (code_small kind), kind_with_its_code kind, follows) refl
 
 pub value_takes : (kind : Kind) (most : ℕ) (bytes : List ℕ) (x : List ℕ × List ℕ) → IsBytes bytes → value_of kind most bytes ≡ Ok x
-    → Takes bytes (value_text kind x.0) x.1 × ValueFits most kind x.0
+    → Takes bytes (value_text kind x.0) x.1 × ValueFits most kind x.0 × ValueFits longest_value kind x.0
 unfolding value_of
-value_takes put most bytes x fits e = let t = sized_takes 4 width_4 0 most bytes x.0 x.1 fits e in (t.0, t.2)
+value_takes put most bytes x fits e = let t = sized_takes 4 width_4 0 most bytes x.0 x.1 fits e in (t.0, t.2, omega (arith, t.3))
 value_takes del most bytes x fits e =
-    subst (λ (y : List ℕ × List ℕ). Takes bytes [] y.1 × (y.0 ≡ [])) (ok_is ([], bytes) x e) (record { parts = refl; rest_fits = fits }, refl)
+    subst (λ (y : List ℕ × List ℕ). Takes bytes [] y.1 × (y.0 ≡ []) × (y.0 ≡ [])) (ok_is ([], bytes) x e) (record { parts = refl; rest_fits = fits }, refl, refl)
 value_takes pdel most bytes x fits e =
-    subst (λ (y : List ℕ × List ℕ). Takes bytes [] y.1 × (y.0 ≡ [])) (ok_is ([], bytes) x e) (record { parts = refl; rest_fits = fits }, refl)
+    subst (λ (y : List ℕ × List ℕ). Takes bytes [] y.1 × (y.0 ≡ []) × (y.0 ≡ [])) (ok_is ([], bytes) x e) (record { parts = refl; rest_fits = fits }, refl, refl)
 
 pub value_again : (kind : Kind) (most : ℕ) (value rest : List ℕ) → most < 2 ^ 32 → ValueFits most kind value
     → value_of kind most (value_text kind value ++ rest) ≡ Ok (value, rest)
@@ -149,9 +149,13 @@ from_store prefix_fits most last bytes kind store =
 abbrev pub from_kind : (ℕ → ℕ → Bool) → ℕ → Option Change → List ℕ → Kind × List ℕ → Result (Change × List ℕ) ℕ
 from_kind prefix_fits most last bytes kind = number_of 8 kind.1 >>= from_store prefix_fits most last bytes kind.0
 
+abbrev pub from_limits : (ℕ → ℕ → Bool) → List ℕ → Kind → ℕ → ℕ × List ℕ → Result (List ℕ × List ℕ) ℕ
+from_limits prefix_fits bytes kind store size =
+    ensure (name_fits prefix_fits kind store size.0) (length bytes) >>= λ allowed. bytes_of size.0 size.1
+
 abbrev pub from_order : (ℕ → ℕ → Bool) → List ℕ → Kind → ℕ → ℕ × List ℕ → Result (List ℕ × List ℕ) ℕ
 from_order prefix_fits bytes kind store size =
-    ensure (name_fits prefix_fits kind store size.0) (length bytes) >>= λ allowed. bytes_of size.0 size.1
+    ensure (name_in_limits kind size.0) (length bytes) >>= λ within. from_limits prefix_fits bytes kind store size
 
 abbrev pub from_size : (ℕ → ℕ → Bool) → Option Change → ℕ → Kind → ℕ → List ℕ → ℕ × List ℕ → Result (List ℕ × List ℕ) ℕ
 from_size prefix_fits last left kind store bytes size =
@@ -188,19 +192,21 @@ name_takes : (prefix_fits : ℕ → ℕ → Bool) (last : Option Change) (left :
     → name_of prefix_fits last left kind store bytes ≡ Ok x → TakesName prefix_fits last kind store bytes x
 unfolding name_of
 name_takes prefix_fits last left kind store bytes x small e =
-    let a = bind_ok (size_of 2 1 (longest_name kind) bytes) (from_size prefix_fits last left kind store bytes) x e in
+    let a = bind_ok (number_of 2 bytes) (from_size prefix_fits last left kind store bytes) x e in
     let size = a.0 in
     let b = bind_ok (ensure (name_may_follow last kind store size.0 size.1) left) (λ in_order. from_order prefix_fits bytes kind store size) x a.2 in
-    let c = bind_ok (ensure (name_fits prefix_fits kind store size.0) (length bytes)) (λ allowed. bytes_of size.0 size.1) x b.2 in
-    let t_size = size_takes 2 width_2 1 (longest_name kind) bytes size.0 size.1 small a.1 in
-    let t_name = bytes_takes size.0 size.1 x.0 x.1 t_size.0.rest_fits c.2 in
+    let c = bind_ok (ensure (name_in_limits kind size.0) (length bytes)) (λ within. from_limits prefix_fits bytes kind store size) x b.2 in
+    let d = bind_ok (ensure (name_fits prefix_fits kind store size.0) (length bytes)) (λ allowed. bytes_of size.0 size.1) x c.2 in
+    let limits = and_parts (nat_le 1 size.0) (nat_le size.0 (longest_name kind)) (ensure_ok _ _ _ c.1) in
+    let t_size = number_takes 2 width_2 bytes size.0 size.1 small a.1 in
+    let t_name = bytes_takes size.0 size.1 x.0 x.1 t_size.0.rest_fits d.2 in
     let told = name_told last kind store size.0 size.1 t_name.3 (ensure_ok _ _ _ b.1) in
     record {
       taken = behind_size 2 size.0 bytes size.1 x.0 x.1 t_size.0 t_name.0 t_name.1;
-      some = rw t_name.1 t_size.1;
-      short = rw t_name.1 t_size.2;
+      some = rw t_name.1 (leb-true _ _ limits.0);
+      short = rw t_name.1 (leb-true _ _ limits.1);
       in_order = subst (λ (n : List ℕ). may_follow last (change kind store n []) ≡ true) t_name.2 told;
-      fits = subst (λ (n : ℕ). name_fits prefix_fits kind store n ≡ true) (sym t_name.1) (ensure_ok _ _ _ c.1);
+      fits = subst (λ (n : ℕ). name_fits prefix_fits kind store n ≡ true) (sym t_name.1) (ensure_ok _ _ _ d.1);
     }
 
 name_again : (prefix_fits : ℕ → ℕ → Bool) (last : Option Change) (left : ℕ) (kind : Kind) (store : ℕ) (name rest : List ℕ) → length name < 256 ^ 2
@@ -208,10 +214,14 @@ name_again : (prefix_fits : ℕ → ℕ → Bool) (last : Option Change) (left :
     → name_fits prefix_fits kind store (length name) ≡ true → name_of prefix_fits last left kind store (sized 2 name ++ rest) ≡ Ok (name, rest)
 unfolding name_of
 name_again prefix_fits last left kind store name rest small some short follows allowed =
+    let low : nat_le 1 (length name) ≡ true = le-leb _ _ some in
+    let high : nat_le (length name) (longest_name kind) ≡ true = le-leb _ _ short in
     ap (name_of prefix_fits last left kind store) (append_assoc (big_bytes 2 (length name)) name rest)
     ∙ rw (
-      size_again 2 1 (longest_name kind) (length name) (name ++ rest) small some short,
+      number_again 2 (length name) (name ++ rest) small,
       name_follows last kind store name rest follows,
+      low,
+      high,
       allowed,
     ) (bytes_again name rest)
 
@@ -219,6 +229,8 @@ name_again prefix_fits last left kind store name rest small some short follows a
 pub record TakesChange (prefix_fits : ℕ → ℕ → Bool) (most : ℕ) (last : Option Change) (bytes : List ℕ) (x : Change × List ℕ) : Type 0 where
   pub taken : Takes bytes (change_text x.0) x.1
   pub formed : IsChange most x.0
+  -- its value is no longer than its length can say, whatever the limit
+  pub bounded : IsChange longest_value x.0
   pub in_order : may_follow last x.0 ≡ true
   pub fits : PrefixFits prefix_fits x.0
 
@@ -245,8 +257,10 @@ change_takes prefix_fits most last bytes x small e =
     let follows : may_follow last (change kind store name value) ≡ true = sym (may_follow-value last kind store name value) ∙ t_name.in_order in
     let formed : IsChange most (change kind store name value) =
     record { store = omega (arith, t_store.1); some_name = t_name.some; short_name = t_name.short; value_fits = t_value.1 } in
+    let bounded : IsChange longest_value (change kind store name value) =
+    record { store = omega (arith, t_store.1); some_name = t_name.some; short_name = t_name.short; value_fits = t_value.2 } in
     subst (TakesChange prefix_fits most last bytes) (ok_is (change kind store name value, g.0.1) x g.2)
-    (record { taken = all; formed = formed; in_order = follows; fits = t_name.fits })
+    (record { taken = all; formed = formed; bounded = bounded; in_order = follows; fits = t_name.fits })
 
 name_small : (kind : Kind) (n : ℕ) → n ≤ longest_name kind → n < 256 ^ 2
 name_small put n h = omega arith
@@ -273,6 +287,20 @@ change_again prefix_fits most last c rest small formed follows allowed =
       name_again prefix_fits last (length whole) c.kind c.store c.name (v ++ rest) (name_small c.kind (length c.name) formed.short_name) formed.some_name formed.short_name in_order allowed,
       value_again c.kind most c.value rest small formed.value_fits,
     ) refl
+
+-- A value of less than 2 ^ 32 bytes has a length that can be written.
+value_bounded : (kind : Kind) (most : ℕ) (value : List ℕ) → most < 2 ^ 32 → ValueFits most kind value → ValueFits longest_value kind value
+value_bounded put most value small fits = omega (arith, fits)
+value_bounded del most value small fits = fits
+value_bounded pdel most value small fits = fits
+
+pub change_bounded : (most : ℕ) (c : Change) → most < 2 ^ 32 → IsChange most c → IsChange longest_value c
+change_bounded most c small formed = record {
+  store = formed.store;
+  some_name = formed.some_name;
+  short_name = formed.short_name;
+  value_fits = value_bounded c.kind most c.value small formed.value_fits;
+}
 
 -- a change is what stands before its value, and its value
 pub head_is : (c : Change) → change_text c ≡ head_text c.kind c.store c.name ++ value_text c.kind c.value

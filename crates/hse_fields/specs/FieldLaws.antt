@@ -126,7 +126,7 @@ bytes_again text rest =
     rw (long, take_at text rest (length text) refl, drop_at text rest (length text) refl) refl
 
 pub size_takes : (n : ℕ) (width : IsWidth n) (least most : ℕ) (bytes : List ℕ) (x : ℕ) (rest : List ℕ) → IsBytes bytes → size_of n least most bytes ≡ Ok (x, rest)
-    → Takes bytes (big_bytes n x) rest × (least ≤ x) × (x ≤ most)
+    → Takes bytes (big_bytes n x) rest × (least ≤ x) × (x ≤ most) × (x < 256 ^ n)
 unfolding size_of
 size_takes n width least most bytes x rest fits e =
     let a = bind_ok (number_of n bytes) (λ size. ensure (nat_le least size.0 && nat_le size.0 most) (length bytes) >>= λ within. Ok (size.0, size.1)) (x, rest) e in
@@ -134,8 +134,8 @@ size_takes n width least most bytes x rest fits e =
     let b = bind_ok (ensure (nat_le least size.0 && nat_le size.0 most) (length bytes)) (λ within. Ok (size.0, size.1)) (x, rest) a.2 in
     let limits = and_parts _ _ (ensure_ok (nat_le least size.0 && nat_le size.0 most) (length bytes) b.0 b.1) in
     let t = number_takes n width bytes size.0 size.1 fits a.1 in
-    subst (λ (p : ℕ × List ℕ). Takes bytes (big_bytes n p.0) p.1 × (least ≤ p.0) × (p.0 ≤ most)) (ok_is (size.0, size.1) (x, rest) b.2)
-    (t.0, leb-true _ _ limits.0, leb-true _ _ limits.1)
+    subst (λ (p : ℕ × List ℕ). Takes bytes (big_bytes n p.0) p.1 × (least ≤ p.0) × (p.0 ≤ most) × (p.0 < 256 ^ n)) (ok_is (size.0, size.1) (x, rest) b.2)
+    (t.0, leb-true _ _ limits.0, leb-true _ _ limits.1, t.1)
 
 pub size_again : (n least most x : ℕ) (rest : List ℕ) → x < 256 ^ n → least ≤ x → x ≤ most
     → size_of n least most (big_bytes n x ++ rest) ≡ Ok (x, rest)
@@ -153,7 +153,7 @@ behind_size n size bytes middle text rest head body len =
     subst (λ (k : ℕ). Takes bytes (big_bytes n k ++ text) rest) (sym len) both
 
 pub sized_takes : (n : ℕ) (width : IsWidth n) (least most : ℕ) (bytes text rest : List ℕ) → IsBytes bytes → sized_of n least most bytes ≡ Ok (text, rest)
-    → Takes bytes (sized n text) rest × (least ≤ length text) × (length text ≤ most)
+    → Takes bytes (sized n text) rest × (least ≤ length text) × (length text ≤ most) × (length text < 256 ^ n)
 unfolding sized_of
 sized_takes n width least most bytes text rest fits e =
     let a = bind_ok (size_of n least most bytes) (λ size. bytes_of size.0 size.1) (text, rest) e in
@@ -161,7 +161,8 @@ sized_takes n width least most bytes text rest fits e =
     let body = bytes_takes a.0.0 a.0.1 text rest head.0.rest_fits a.2 in
     let low : least ≤ length text = rw body.1 head.1 in
     let high : length text ≤ most = rw body.1 head.2 in
-    (behind_size n a.0.0 bytes a.0.1 text rest head.0 body.0 body.1, low, high)
+    let small : length text < 256 ^ n = rw body.1 head.3 in
+    (behind_size n a.0.0 bytes a.0.1 text rest head.0 body.0 body.1, low, high, small)
 
 pub sized_again : (n least most : ℕ) (text rest : List ℕ) → length text < 256 ^ n → least ≤ length text → length text ≤ most
     → sized_of n least most (sized n text ++ rest) ≡ Ok (text, rest)

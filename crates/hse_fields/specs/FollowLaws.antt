@@ -3,9 +3,9 @@
 use Rattle.std.specs.Prelude.{◌≡◌, ℕ, zero, suc, ◌+◌, true, List, [], ◌∷◌, ◌++◌, length, Some, Ok, nat_lt, ◌==◌}
 use Rattle.std.proofs.Common.{refl, sym, subst}
 use Rattle.hse_fields.specs.LogText.{Entry}
-use Rattle.hse_fields.specs.LogReading.{◌>>=◌, ensure, given, number_of, changes_of, Rule, entry_of, entries_of, payload_of, Follow}
+use Rattle.hse_fields.specs.LogReading.{◌>>=◌, ensure, given, number_of, changes_of, Rule, has_room, entry_of, entries_of, payload_of, Follow}
 use Rattle.hse_fields.specs.FieldLaws.{bind_ok, ensure_ok, given_ok, ok_is}
-use Rattle.hse_fields.specs.PayloadLaws.{entry, from_changes, from_number, other_entries_of, ended_of}
+use Rattle.hse_fields.specs.PayloadLaws.{entry, from_changes, from_room, from_next, from_number, other_entries_of, ended_of}
 
 record Comes {S : Type 0} (rule : Rule S) (state : S) (x : Entry × S) : Type 0 where
   next : rule.number_fits state x.0.number ≡ true
@@ -17,8 +17,9 @@ unfolding entry_of
 entry_comes {S} rule most state bytes x e =
     let a = bind_ok (number_of 8 bytes) (from_number rule most state bytes) x e in
     let number = a.0.0 in
-    let b = bind_ok (ensure (rule.number_fits state number) (length bytes)) (λ next. changes_of rule.prefix_fits most a.0.1 >>= from_changes rule state bytes number) x a.2 in
-    let c = bind_ok (changes_of rule.prefix_fits most a.0.1) (from_changes rule state bytes number) x b.2 in
+    let b = bind_ok (ensure (rule.number_fits state number) (length bytes)) (λ next. from_next rule most state bytes a.0) x a.2 in
+    let r = bind_ok (ensure (has_room rule state number a.0.1) (length bytes)) (λ room. from_room rule most state bytes a.0) x b.2 in
+    let c = bind_ok (changes_of rule.prefix_fits most a.0.1) (from_changes rule state bytes number) x r.2 in
     let made = entry number c.0.0 in
     let d = bind_ok (given (rule.after state made) (length bytes)) (λ after. Ok ((made, after), c.0.1)) x c.2 in
     subst (λ (y : (Entry × S) × List ℕ). Comes rule state y.0) (ok_is ((made, d.0), c.0.1) x d.2)

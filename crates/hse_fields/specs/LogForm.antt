@@ -10,6 +10,10 @@ longest_name put = 1344
 longest_name del = 1344
 longest_name pdel = 32
 
+-- the most bytes that a value has whose length can be written
+abbrev pub longest_value : ℕ
+longest_value = 4294967295
+
 -- a value has at most so many bytes, and puts alone have one
 abbrev pub ValueFits : ℕ → Kind → List ℕ → Type 0
 ValueFits most put value = length value ≤ most

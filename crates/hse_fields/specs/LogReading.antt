@@ -1,11 +1,11 @@
 -- Reading the log's text from left to right. A field is a value and the bytes behind it. A refusal is the
 -- number of bytes that stand from the first refused field on, to the end of the payload.
-use Rattle.std.specs.Prelude.{◌≡◌, ℕ, zero, suc, ◌+◌, List, [], ◌∷◌, length, take, drop, Bool, true, Option, Some, None, Result, Ok, Err, nat_lt, nat_le, ◌==◌, ◌&&◌, ◌||◌, if◌then◌else◌}
+use Rattle.std.specs.Prelude.{◌≡◌, ℕ, zero, suc, ◌+◌, List, [], ◌∷◌, length, take, drop, Bool, true, Option, Some, None, is_some, Result, Ok, Err, nat_lt, nat_le, ◌==◌, ◌&&◌, ◌||◌, if◌then◌else◌}
 use Rattle.std.specs.List.{AllByRecursion}
 use Rattle.byteorder.specs.Endian.{big_number}
 use Rattle.hse_fields.specs.LogText.{Kind, put, del, pdel, Change, Entry}
 use Rattle.hse_fields.specs.LogOrder.{may_follow, kind_may_follow, store_may_follow}
-use Rattle.hse_fields.specs.LogForm.{longest_name}
+use Rattle.hse_fields.specs.LogForm.{longest_name, longest_value}
 
 infixl 10 ◌>>=◌
 abbrev pub ◌>>=◌ : {A B : Type 0} → Result A ℕ → (A → Result B ℕ) → Result B ℕ
@@ -75,13 +75,19 @@ name_fits prefix_fits put store size = true
 name_fits prefix_fits del store size = true
 name_fits prefix_fits pdel store size = prefix_fits store size
 
+-- whether a name of this kind may have so many bytes in any store
+abbrev pub name_in_limits : Kind → ℕ → Bool
+name_in_limits kind size = nat_le 1 size && nat_le size (longest_name kind)
+
 -- A change's name behind its length, for a change with so many bytes from its first one on. One that may not
--- stand behind the last one is refused at its first byte, also where its name shows it. A prefix whose length is not
--- allowed for its store is refused at its length.
+-- stand behind the last one is refused at its first byte, also where its name shows it: before its length is looked
+-- at, since that byte is the lower place. A length that no name of this kind may have, or no prefix of this store, is
+-- refused at itself.
 unfoldable pub name_of : (ℕ → ℕ → Bool) → Option Change → ℕ → Kind → ℕ → List ℕ → Result (List ℕ × List ℕ) ℕ
 name_of prefix_fits last left kind store bytes = do
-  size ← size_of 2 1 (longest_name kind) bytes
+  size ← number_of 2 bytes
   in_order ← ensure (name_may_follow last kind store size.0 size.1) left
+  within ← ensure (name_in_limits kind size.0) (length bytes)
   allowed ← ensure (name_fits prefix_fits kind store size.0) (length bytes)
   bytes_of size.0 size.1
 
@@ -118,10 +124,27 @@ pub record Rule (S : Type 0) : Type 0 where
   pub number_fits : S → ℕ → Bool
   pub after : S → Entry → Option S
 
+-- The changes as far as they can be read at all: with prefixes of any length that a prefix may have, and values of any
+-- length.
+abbrev pub any_changes_of : List ℕ → Result (List Change × List ℕ) ℕ
+any_changes_of bytes = changes_of (λ _ _. true) longest_value bytes
+
+-- whether an entry of this number may come that has these changes, where they were read
+abbrev pub comes_with : {S : Type 0} → Rule S → S → ℕ → Result (List Change × List ℕ) ℕ → Bool
+comes_with rule state number (Ok changes) = is_some (rule.after state (record { number = number; changes = changes.0 }))
+comes_with rule state number (Err left) = true
+
+-- Whether there is room for an entry: whether it may come, as far as its changes can be read at all.
+unfoldable pub has_room : {S : Type 0} → Rule S → S → ℕ → List ℕ → Bool
+has_room rule state number bytes = comes_with rule state number (any_changes_of bytes)
+
+-- An entry that may not come is refused at its number, before any length in its changes: the number is the lower place.
+-- Only where the changes cannot be read at all it does not tell.
 unfoldable pub entry_of : {S : Type 0} → Rule S → ℕ → S → List ℕ → Result ((Entry × S) × List ℕ) ℕ
 entry_of rule most state bytes = do
   number ← number_of 8 bytes
   next ← ensure (rule.number_fits state number.0) (length bytes)
+  room ← ensure (has_room rule state number.0 number.1) (length bytes)
   changes ← changes_of rule.prefix_fits most number.1
   after ← given (rule.after state (record { number = number.0; changes = changes.0 })) (length bytes)
   Ok ((record { number = number.0; changes = changes.0 }, after), changes.1)

@@ -1,15 +1,15 @@
 -- Entries and payloads that are read are those that were written, and what was written is read again.
-use Rattle.std.specs.Prelude.{◌≡◌, ℕ, zero, suc, ◌+◌, ◌^◌, ◌<◌, Bool, true, List, [], ◌∷◌, ◌++◌, length, Option, Some, None, Result, Ok, nat_lt, ◌==◌}
+use Rattle.std.specs.Prelude.{◌≡◌, ℕ, zero, suc, ◌+◌, ◌^◌, ◌<◌, Bool, true, List, [], ◌∷◌, ◌++◌, length, Option, Some, None, is_some, Result, Ok, nat_lt, ◌==◌}
 use Rattle.std.specs.List.{flat_map, AllByRecursion}
 use Rattle.std.proofs.Common.{refl, sym, ap, subst, ◌∙◌, append_assoc, arith, length-append}
 use Rattle.std.proofs.lemmas.Bool.{ltb-true, lt-ltb, eqb-true}
 use Rattle.std.proofs.lemmas.List.{append-nil, nil_from_length}
 use Rattle.byteorder.specs.Endian.{big_bytes}
-use Rattle.hse_fields.specs.LogText.{Change, Entry, change_text, changes_text, entry_text, payload_text}
-use Rattle.hse_fields.specs.LogForm.{IsChange, AreInOrder, AreChanges, IsEntry, ArePayload}
-use Rattle.hse_fields.specs.LogReading.{◌>>=◌, ensure, given, number_of, change_of, more_changes_of, changes_of, Rule, entry_of, entries_of, payload_of, Follow, PrefixFits, PrefixesFit}
+use Rattle.hse_fields.specs.LogText.{Kind, put, del, pdel, Change, Entry, change_text, changes_text, entry_text, payload_text}
+use Rattle.hse_fields.specs.LogForm.{longest_value, IsChange, AreInOrder, AreChanges, IsEntry, ArePayload}
+use Rattle.hse_fields.specs.LogReading.{◌>>=◌, ensure, given, number_of, change_of, more_changes_of, changes_of, any_changes_of, Rule, has_room, entry_of, entries_of, payload_of, Follow, name_fits, PrefixFits, PrefixesFit}
 use Rattle.hse_fields.specs.FieldLaws.{IsBytes, bind_ok, ensure_ok, given_ok, ok_is, Takes, Takes-then, width_4, width_8, number_takes, number_again}
-use Rattle.hse_fields.specs.ChangeLaws.{change_takes, change_again}
+use Rattle.hse_fields.specs.ChangeLaws.{change_takes, change_again, change_bounded}
 
 -- ---- changes
 
@@ -18,6 +18,7 @@ pub record TakesChanges (prefix_fits : ℕ → ℕ → Bool) (most : ℕ) (last 
   pub taken : Takes bytes (flat_map change_text x.0) x.1
   pub counted : length x.0 ≡ n
   pub formed : AllByRecursion (IsChange most) x.0
+  pub bounded : AllByRecursion (IsChange longest_value) x.0
   pub in_order : AreInOrder last x.0
   pub fits : AllByRecursion (PrefixFits prefix_fits) x.0
 
@@ -29,7 +30,7 @@ pub more_changes_take : (prefix_fits : ℕ → ℕ → Bool) (most : ℕ) (last 
 unfolding more_changes_of
 more_changes_take prefix_fits most last zero bytes x small e =
     subst (TakesChanges prefix_fits most last 0 bytes) (ok_is ([], bytes) x e)
-    (record { taken = record { parts = refl; rest_fits = small }; counted = refl; formed = tt; in_order = tt; fits = tt })
+    (record { taken = record { parts = refl; rest_fits = small }; counted = refl; formed = tt; bounded = tt; in_order = tt; fits = tt })
 more_changes_take prefix_fits most last (suc n) bytes x small e =
     let a = bind_ok (change_of prefix_fits most last bytes) (others_of prefix_fits most n) x e in
     let b = bind_ok (more_changes_of prefix_fits most (Some a.0.0) n a.0.1) (λ others. Ok (a.0.0 ∷ others.0, others.1)) x a.2 in
@@ -40,6 +41,7 @@ more_changes_take prefix_fits most last (suc n) bytes x small e =
       taken = Takes-then bytes (change_text a.0.0) a.0.1 (flat_map change_text b.0.0) b.0.1 first.taken others.taken;
       counted = ap suc others.counted;
       formed = (first.formed, others.formed);
+      bounded = (first.bounded, others.bounded);
       in_order = (first.in_order, others.in_order);
       fits = (first.fits, others.fits);
     })
@@ -62,6 +64,7 @@ more_changes_again prefix_fits most last (c ∷ cs) rest small formed in_order f
 pub record TakesAllChanges (prefix_fits : ℕ → ℕ → Bool) (most : ℕ) (bytes : List ℕ) (x : List Change × List ℕ) : Type 0 where
   pub taken : Takes bytes (changes_text x.0) x.1
   pub formed : AreChanges most x.0
+  pub bounded : AreChanges longest_value x.0
   pub fits : AllByRecursion (PrefixFits prefix_fits) x.0
 
 pub changes_take : (prefix_fits : ℕ → ℕ → Bool) (most : ℕ) (bytes : List ℕ) (x : List Change × List ℕ) → IsBytes bytes
@@ -77,6 +80,7 @@ changes_take prefix_fits most bytes x small e =
     record {
       taken = Takes-then bytes (big_bytes 4 (length x.0)) a.0.1 (flat_map change_text x.0) x.1 head read.taken;
       formed = record { some = omega (arith, some, read.counted); counted = omega (arith, count.1, read.counted); formed = read.formed; in_order = read.in_order };
+      bounded = record { some = omega (arith, some, read.counted); counted = omega (arith, count.1, read.counted); formed = read.bounded; in_order = read.in_order };
       fits = read.fits;
     }
 
@@ -93,6 +97,36 @@ changes_again prefix_fits most cs rest small formed fits =
       some,
       more_changes_again prefix_fits most None cs rest small formed.formed formed.in_order fits,
     ) refl
+
+-- ---- changes that are read where no rule is asked
+
+one_prefix_fits : (kind : Kind) (store size : ℕ) → name_fits (λ _ _. true) kind store size ≡ true
+one_prefix_fits put store size = refl
+one_prefix_fits del store size = refl
+one_prefix_fits pdel store size = refl
+
+-- where prefixes may have any lengths, they have such
+pub any_prefixes_fit : (cs : List Change) → AllByRecursion (PrefixFits (λ _ _. true)) cs
+any_prefixes_fit [] = tt
+any_prefixes_fit (c ∷ cs) = (one_prefix_fits c.kind c.store (length c.name), any_prefixes_fit cs)
+
+-- What is read by a rule is read where none is asked.
+pub any_changes_too : (prefix_fits : ℕ → ℕ → Bool) (most : ℕ) (bytes : List ℕ) (changes : List Change) (rest : List ℕ) → IsBytes bytes
+    → changes_of prefix_fits most bytes ≡ Ok (changes, rest) → any_changes_of bytes ≡ Ok (changes, rest)
+any_changes_too prefix_fits most bytes changes rest small e =
+    let read = changes_take prefix_fits most bytes (changes, rest) small e in
+    ap any_changes_of read.taken.parts ∙ changes_again (λ _ _. true) longest_value changes rest (omega arith) read.bounded (any_prefixes_fit changes)
+
+all_bounded : (most : ℕ) (cs : List Change) → most < 2 ^ 32 → AllByRecursion (IsChange most) cs → AllByRecursion (IsChange longest_value) cs
+all_bounded most [] small formed = tt
+all_bounded most (c ∷ cs) small formed = (change_bounded most c small formed.0, all_bounded most cs small formed.1)
+
+-- So is what is spelled so.
+any_changes_again : (most : ℕ) (cs : List Change) (rest : List ℕ) → most < 2 ^ 32 → AreChanges most cs → any_changes_of (changes_text cs ++ rest) ≡ Ok (cs, rest)
+any_changes_again most cs rest small formed =
+    changes_again (λ _ _. true) longest_value cs rest (omega arith)
+    (record { some = formed.some; counted = formed.counted; formed = all_bounded most cs small formed.formed; in_order = formed.in_order })
+    (any_prefixes_fit cs)
 
 -- ---- entries
 
@@ -111,9 +145,16 @@ abbrev pub from_changes : {S : Type 0} → Rule S → S → List ℕ → ℕ →
 from_changes rule state bytes number changes =
     given (rule.after state (entry number changes.0)) (length bytes) >>= λ after. Ok ((entry number changes.0, after), changes.1)
 
+abbrev pub from_room : {S : Type 0} → Rule S → ℕ → S → List ℕ → ℕ × List ℕ → Result ((Entry × S) × List ℕ) ℕ
+from_room rule most state bytes number = changes_of rule.prefix_fits most number.1 >>= from_changes rule state bytes number.0
+
+abbrev pub from_next : {S : Type 0} → Rule S → ℕ → S → List ℕ → ℕ × List ℕ → Result ((Entry × S) × List ℕ) ℕ
+from_next rule most state bytes number =
+    ensure (has_room rule state number.0 number.1) (length bytes) >>= λ room. from_room rule most state bytes number
+
 abbrev pub from_number : {S : Type 0} → Rule S → ℕ → S → List ℕ → ℕ × List ℕ → Result ((Entry × S) × List ℕ) ℕ
 from_number rule most state bytes number =
-    ensure (rule.number_fits state number.0) (length bytes) >>= λ next. (changes_of rule.prefix_fits most number.1 >>= from_changes rule state bytes number.0)
+    ensure (rule.number_fits state number.0) (length bytes) >>= λ next. from_next rule most state bytes number
 
 entry_takes : {S : Type 0} (rule : Rule S) (most : ℕ) (state : S) (bytes : List ℕ) (x : (Entry × S) × List ℕ) → IsBytes bytes
     → entry_of rule most state bytes ≡ Ok x → TakesEntry rule most state bytes x
@@ -121,8 +162,9 @@ unfolding entry_of
 entry_takes {S} rule most state bytes x fits e =
     let a = bind_ok (number_of 8 bytes) (from_number rule most state bytes) x e in
     let number = a.0.0 in
-    let b = bind_ok (ensure (rule.number_fits state number) (length bytes)) (λ next. changes_of rule.prefix_fits most a.0.1 >>= from_changes rule state bytes number) x a.2 in
-    let c = bind_ok (changes_of rule.prefix_fits most a.0.1) (from_changes rule state bytes number) x b.2 in
+    let b = bind_ok (ensure (rule.number_fits state number) (length bytes)) (λ next. from_next rule most state bytes a.0) x a.2 in
+    let r = bind_ok (ensure (has_room rule state number a.0.1) (length bytes)) (λ room. from_room rule most state bytes a.0) x b.2 in
+    let c = bind_ok (changes_of rule.prefix_fits most a.0.1) (from_changes rule state bytes number) x r.2 in
     let made = entry number c.0.0 in
     let d = bind_ok (given (rule.after state made) (length bytes)) (λ after. Ok ((made, after), c.0.1)) x c.2 in
     let head = number_takes 8 width_8 bytes number a.0.1 fits a.1 in
@@ -136,6 +178,12 @@ entry_takes {S} rule most state bytes x fits e =
       fits = read.fits;
     })
 
+-- There is room exactly for an entry that may come, where its changes are read.
+pub room_is : {S : Type 0} (rule : Rule S) (state : S) (number : ℕ) (bytes : List ℕ) (changes : List Change) (rest : List ℕ)
+    → any_changes_of bytes ≡ Ok (changes, rest) → has_room rule state number bytes ≡ is_some (rule.after state (entry number changes))
+unfolding has_room
+room_is rule state number bytes changes rest e = rw e refl
+
 entry_again : {S : Type 0} (rule : Rule S) (most : ℕ) (state after : S) (e : Entry) (rest : List ℕ) → most < 2 ^ 32 → IsEntry most e
     → rule.number_fits state e.number ≡ true → rule.after state e ≡ Some after → AllByRecursion (PrefixFits rule.prefix_fits) e.changes
     → entry_of rule most state (entry_text e ++ rest) ≡ Ok ((e, after), rest)
@@ -144,10 +192,14 @@ entry_again rule most state after e rest small formed next follows fits =
     let regrouped : entry_text e ++ rest ≡ big_bytes 8 e.number ++ (changes_text e.changes ++ rest) =
     append_assoc (big_bytes 8 e.number) (changes_text e.changes) rest in
     let is : rule.after state (entry e.number e.changes) ≡ Some after = follows in
+    let room : has_room rule state e.number (changes_text e.changes ++ rest) ≡ true =
+    room_is rule state e.number (changes_text e.changes ++ rest) e.changes rest (any_changes_again most e.changes rest small formed.changes)
+    ∙ ap is_some is in
     ap (entry_of rule most state) regrouped
     ∙ rw (
       number_again 8 e.number (changes_text e.changes ++ rest) (omega (arith, formed.number)),
       next,
+      room,
       changes_again rule.prefix_fits most e.changes rest small formed.changes fits,
       is,
     ) refl

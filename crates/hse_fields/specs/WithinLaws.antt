@@ -3,11 +3,11 @@ use Rattle.std.specs.Prelude.{◌≡◌, ℕ, zero, suc, ◌+◌, ◌≤◌, Boo
 use Rattle.std.proofs.Common.{arith, cond}
 use Rattle.std.proofs.lemmas.List.{length-drop}
 use Rattle.byteorder.specs.Endian.{big_number}
-use Rattle.hse_fields.specs.LogText.{Kind, put, del, pdel, Change, Entry}
+use Rattle.hse_fields.specs.LogText.{Kind, put, del, pdel, Change}
 use Rattle.hse_fields.specs.LogOrder.{kind_may_follow, store_may_follow}
-use Rattle.hse_fields.specs.LogForm.{longest_name}
-use Rattle.hse_fields.specs.LogReading.{◌>>=◌, ensure, given, number_of, bytes_of, size_of, sized_of, kind_with, kind_of, value_of, name_may_follow, name_fits, name_of, change_of, more_changes_of, changes_of, Rule, entry_of, entries_of, payload_of}
-use Rattle.hse_fields.specs.ChangeLaws.{from_value, from_name, from_order, from_size, from_store, from_kind}
+use Rattle.hse_fields.specs.LogReading.{◌>>=◌, ensure, given, number_of, bytes_of, size_of, sized_of, kind_with, kind_of, value_of, name_may_follow, name_in_limits, name_fits, name_of, change_of, more_changes_of, changes_of, Rule, has_room, entry_of, entries_of, payload_of}
+use Rattle.hse_fields.specs.ChangeLaws.{from_value, from_name, from_limits, from_order, from_size, from_store, from_kind}
+use Rattle.hse_fields.specs.PayloadLaws.{entry, from_changes, from_room, from_next, from_number}
 
 -- a reading of at most so many bytes
 abbrev pub Within : {A : Type 0} → ℕ → Result (A × List ℕ) ℕ → Type 0
@@ -74,9 +74,10 @@ name_within : (prefix_fits : ℕ → ℕ → Bool) (last : Option Change) (left 
     → Within n (name_of prefix_fits last left kind store bytes)
 unfolding name_of
 name_within prefix_fits last left kind store n bytes le h =
-    then n (size_of 2 1 (longest_name kind) bytes) (from_size prefix_fits last left kind store bytes) (size_within 2 1 (longest_name kind) n bytes h)
+    then n (number_of 2 bytes) (from_size prefix_fits last left kind store bytes) (number_within 2 n bytes h)
     (λ size i. ensured n left (name_may_follow last kind store size.0 size.1) (λ in_order. from_order prefix_fits bytes kind store size) le
-    (ensured n (length bytes) (name_fits prefix_fits kind store size.0) (λ allowed. bytes_of size.0 size.1) h (bytes_within size.0 n size.1 i)))
+    (ensured n (length bytes) (name_in_limits kind size.0) (λ within. from_limits prefix_fits bytes kind store size) h
+    (ensured n (length bytes) (name_fits prefix_fits kind store size.0) (λ allowed. bytes_of size.0 size.1) h (bytes_within size.0 n size.1 i))))
 
 -- from behind a change's store on
 store_within : (prefix_fits : ℕ → ℕ → Bool) (most : ℕ) (last : Option Change) (n : ℕ) (bytes : List ℕ) (kind : Kind) (store : ℕ × List ℕ)
@@ -109,18 +110,15 @@ changes_within prefix_fits most n bytes le =
     (number_within 4 n bytes le)
     (λ count h. ensured n (length bytes) (nat_lt 0 count.0) (λ some. more_changes_of prefix_fits most None count.0 count.1) le (more_changes_within prefix_fits most None count.0 n count.1 h))
 
-abbrev entry : ℕ → List Change → Entry
-entry number changes = record { number = number; changes = changes }
-
 entry_within : {S : Type 0} (rule : Rule S) (most : ℕ) (state : S) (n : ℕ) (bytes : List ℕ) → length bytes ≤ n → Within n (entry_of rule most state bytes)
 unfolding entry_of
 entry_within rule most state n bytes le =
-    then n (number_of 8 bytes) (λ number. ensure (rule.number_fits state number.0) (length bytes) >>= λ next. (changes_of rule.prefix_fits most number.1 >>= λ changes. (given (rule.after state (entry number.0 changes.0)) (length bytes) >>= λ after. Ok ((entry number.0 changes.0, after), changes.1))))
-    (number_within 8 n bytes le)
-    (λ number h. ensured n (length bytes) (rule.number_fits state number.0) (λ next. changes_of rule.prefix_fits most number.1 >>= λ changes. (given (rule.after state (entry number.0 changes.0)) (length bytes) >>= λ after. Ok ((entry number.0 changes.0, after), changes.1))) le
-    (then n (changes_of rule.prefix_fits most number.1) (λ changes. given (rule.after state (entry number.0 changes.0)) (length bytes) >>= λ after. Ok ((entry number.0 changes.0, after), changes.1))
+    then n (number_of 8 bytes) (from_number rule most state bytes) (number_within 8 n bytes le)
+    (λ number h. ensured n (length bytes) (rule.number_fits state number.0) (λ next. from_next rule most state bytes number) le
+    (ensured n (length bytes) (has_room rule state number.0 number.1) (λ room. from_room rule most state bytes number) le
+    (then n (changes_of rule.prefix_fits most number.1) (from_changes rule state bytes number.0)
     (changes_within rule.prefix_fits most n number.1 h)
-    (λ changes i. given_within n (length bytes) (rule.after state (entry number.0 changes.0)) (λ after. Ok ((entry number.0 changes.0, after), changes.1)) le (λ after. i))))
+    (λ changes i. given_within n (length bytes) (rule.after state (entry number.0 changes.0)) (λ after. Ok ((entry number.0 changes.0, after), changes.1)) le (λ after. i)))))
 
 entries_within : {S : Type 0} (rule : Rule S) (most : ℕ) (state : S) (count n : ℕ) (bytes : List ℕ) → length bytes ≤ n → Within n (entries_of rule most state count bytes)
 unfolding entries_of

@@ -70,3 +70,7 @@ pub tail_goes_on : (batches : List Payload) (i : ℕ) (batch : Payload) → i < 
 tail_goes_on batches i batch lt is =
     ap (λ (bs : List Payload). sum_by need_of (payloads_of bs)) (rest_is batches i batch lt is)
     ∙ sum_by-cons need_of batch.bytes.items (payloads_of (drop (i + 1) batches))
+
+-- behind the last one there is none
+pub tail_is_done : (batches : List Payload) (i : ℕ) → length batches ≤ i → sum_by need_of (payloads_of (drop i batches)) ≡ 0
+tail_is_done batches i le = ap (λ (bs : List Payload). sum_by need_of (payloads_of bs)) (drop_all i batches le)

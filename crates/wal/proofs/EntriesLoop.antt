@@ -1,8 +1,12 @@
 -- Reading entries one after the other, as a loop does, and what they take of the room.
-use Rattle.std.proofs.Common.{◌≡◌, ℕ, suc, ◌-◌, ◌+◌, ◌≤◌, ◌<◌, List, [], ◌∷◌, ◌++◌, length, Result, Ok, Err, refl, sym, ap, ◌∙◌, append_assoc, arith}
+use Rattle.std.proofs.Common.{◌≡◌, ℕ, suc, ◌-◌, ◌+◌, ◌*◌, ◌≤◌, ◌<◌, List, [], ◌∷◌, ◌++◌, length, Result, Ok, Err, refl, sym, ap, ◌∙◌, append_assoc, arith, length-append}
 use Rattle.std.specs.Prelude.{IfOk, IfErr}
+use Rattle.std.specs.List.{flat_map}
 use Rattle.std.proofs.lemmas.List.{append-nil}
-use Rattle.hse_fields.specs.LogText.{Entry}
+use Rattle.std.proofs.lemmas.List.Sums.{sum_by-cons}
+use Rattle.byteorder.specs.Endian.{big_bytes}
+use Rattle.byteorder.specs.Numbers.{length-bytes_high_first}
+use Rattle.hse_fields.specs.LogText.{Entry, entry_text, payload_text}
 use Rattle.hse_fields.specs.LogReading.{◌>>=◌, entry_of, entries_of, payload_of}
 use Rattle.hse_fields.specs.FieldLaws.{IsBytes}
 use Rattle.hse_fields.specs.PayloadLaws.{payload_takes}
@@ -11,6 +15,7 @@ use Rattle.wal.specs.declared.refusal.Refusal.{Refusal}
 use Rattle.wal.specs.declared.refusal.Refusal.TheVariants.{Left, NoMemory}
 use Rattle.wal.specs.Charges.{charges}
 use Rattle.wal.specs.Given.{Fails, Gives, LiesBehind}
+use Rattle.wal.specs.Logged.{charge}
 use Rattle.wal.specs.Numbering.{Numbers, numbering}
 use Rattle.wal.specs.NumberingLaws.{all_charges}
 use Rattle.wal.specs.declared.live.StorePrefix.{StorePrefix}
@@ -60,6 +65,24 @@ pub payload_charges : (live : List StorePrefix) (most : ℕ) (state last : Numbe
     → payload_of (numbering live) most state bytes ≡ Ok (es, last) → charges es + last.room ≡ state.room
 payload_charges live most state last bytes es small e = all_charges live state last es (payload_takes (numbering live) most state bytes (es, last) small e).2
 
+-- an entry is charged 32 bytes more than its text has
+text_charges : (es : List Entry) → length (flat_map entry_text es) + 32 * length es ≡ charges es
+text_charges [] = refl
+text_charges (e ∷ es) =
+    let text = length-append (entry_text e) (flat_map entry_text es) in
+    omega (arith, text, text_charges es, sum_by-cons charge e es)
+
+-- The charges cover the payload's count and the 5 bytes before it, since there is an entry.
+pub payload_sized : (live : List StorePrefix) (most : ℕ) (state last : Numbers) (bytes : List ℕ) (es : List Entry) → IsBytes bytes
+    → payload_of (numbering live) most state bytes ≡ Ok (es, last) → 5 + length bytes ≤ charges es
+payload_sized live most state last bytes es small e =
+    let taken = payload_takes (numbering live) most state bytes (es, last) small e in
+    let spelled : length bytes ≡ length (payload_text es) = ap length taken.0 in
+    let some : 1 ≤ length es = taken.1.some in
+    let count = length-bytes_high_first 4 (length es) in
+    let text = length-append (big_bytes 4 (length es)) (flat_map entry_text es) in
+    omega (arith, spelled, some, count, text, text_charges es)
+
 -- ---- what a reader of a payload gave
 
 pub lies_behind : {X : Type 0} (view : X → List Entry × Numbers) (r : Result X Refusal) (live : List StorePrefix) (most : ℕ) (state : Numbers) (bytes : List ℕ)
@@ -72,3 +95,8 @@ pub charged : {X : Type 0} (view : X → List Entry × Numbers) (r : Result X Re
     → Gives view r (payload_of (numbering live) most state bytes) → IfOk r (λ x. charges (view x).0 + (view x).1.room ≡ state.room)
 charged view (Ok x) live most state bytes small e = payload_charges live most state (view x).1 bytes (view x).0 small e
 charged view (Err refusal) live most state bytes small e = tt
+
+pub sized : {X : Type 0} (view : X → List Entry × Numbers) (r : Result X Refusal) (live : List StorePrefix) (most : ℕ) (state : Numbers) (bytes : List ℕ) → IsBytes bytes
+    → Gives view r (payload_of (numbering live) most state bytes) → IfOk r (λ x. 5 + length bytes ≤ charges (view x).0)
+sized view (Ok x) live most state bytes small e = payload_sized live most state (view x).1 bytes (view x).0 small e
+sized view (Err refusal) live most state bytes small e = tt

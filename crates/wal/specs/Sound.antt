@@ -22,6 +22,8 @@ pub record IsSound (size first : ℕ) (taken : List ℕ) (front : Front) (segmen
   pub charged : segment.charges ≡ charges (entries_of segment.commits.items)
   pub fits : segment.charges ≤ size - 64
   pub counted : 44 * length segment.commits.items ≤ segment.charges
+  -- the batches take no more than 9 bytes beside the charges: an entry is charged 32 bytes more than it takes
+  pub placed : segment.tail.gate ≤ 9 + segment.charges
   -- no number is above the greatest one
   pub numbers : All (λ (c : Commit). c.number ≤ last_number) segment.commits.items
   pub small : segment.next ≤ last_number + 1

@@ -1,5 +1,5 @@
 //! Reads the commits of a segment's batches.
-ghost use Rattle.std.specs.Prelude.{◌≡◌, ◌+◌, ◌≤◌, ◌<◌, ◌^◌, length, IfOk};
+ghost use Rattle.std.specs.Prelude.{◌≡◌, ◌+◌, ◌≤◌, ◌<◌, ◌^◌, ℕ, length, IfOk, IsErrOf};
 ghost use Rattle.gate_log.specs.Places.{need_of, tail_of};
 ghost use Rattle.gate_log.specs.Reading.{payloads_of};
 ghost use Rattle.hse_fields.specs.LogReading.{payload_of};
@@ -38,6 +38,8 @@ fn batch_at<'t>(
         (payload_of (numbering live.now) most (numbers_as expected.entry) payload.now)) }
     ensures charged { IfOk result (λ x. charges (entries_of x.0.items) + x.1.room
         ≡ expected.entry.room) }
+    ensures sized { IfOk result (λ x. 5 + length payload.now ≤ charges (entries_of x.0.items)) }
+    ensures within { (place : ℕ) → IsErrOf result (SegmentFault.Damaged place) → place ≤ end }
 {
     match payload_at(alloc, most, live, expected, payload) {
         Ok(read) => Ok(read),
@@ -60,6 +62,11 @@ pub(crate) fn batches_at<'t>(
         (batches_of live.now most (numbers_as expected.entry) 9 (payloads_of batches.now)) }
     ensures charged { IfOk result (λ x. charges (entries_of x.0.items) + x.1.room
         ≡ expected.entry.room) }
+    // The batches take no more than the charges; 9 bytes stand before the first of them.
+    ensures sized { IfOk result (λ x. tail_of (payloads_of batches.now)
+        ≤ 9 + charges (entries_of x.0.items)) }
+    ensures within { (place : ℕ) → IsErrOf result (SegmentFault.Damaged place)
+        → place ≤ tail_of (payloads_of batches.now) }
 {
     let mut commits = Vec::new(alloc);
     let mut next = expected;

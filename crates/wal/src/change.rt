@@ -8,7 +8,7 @@ ghost use Rattle.wal.specs.Live.{prefix_fits};
 ghost use Rattle.wal.specs.Logged.{last_of, logged, logged_change};
 
 use crate::StorePrefix;
-use crate::field::{byte_at, bytes_at, size_at, u64_at, value_at};
+use crate::field::{byte_at, bytes_at, size_in_limits, u16_at, u64_at, value_at};
 use crate::kind::{Kind, kind_of_byte};
 use crate::live::name_may;
 use crate::order::{may_front_follow, may_kind_follow, may_store_follow};
@@ -33,7 +33,9 @@ fn kind_at<'a>(last: Option<&Write>, bytes: &'a [u8]) -> Result<(Kind, &'a [u8])
     Ok((kind, rest))
 }
 
-/// A change's name behind its length, for a change with so many bytes from its first one on.
+/// A change's name behind its length, for a change with so many bytes from its first one on. The order
+/// is tested before the length, since a change that breaks it is refused at its first byte, which is the
+/// lower place.
 #[tactic(auto, unfolding(hse_fields::specs::LogReading::name_of))]
 fn name_at<'a>(
     live: &[StorePrefix],
@@ -48,9 +50,13 @@ fn name_at<'a>(
     ensures some { IfOk result (λ x. 1 ≤ length x.0.now) }
     ensures short { IfOk result (λ x. length x.0.now ≤ longest_name (kind_as kind)) }
 {
-    let (size, rest) = size_at(kind, bytes)?;
+    let (size, rest) = u16_at(bytes)?;
+    let size = size as u64;
     if !may_front_follow(last, kind, store, size, rest) {
         return Err(Refusal::Left(left));
+    }
+    if !size_in_limits(kind, size) {
+        return Err(Refusal::Left(bytes.len() as u64));
     }
     if !name_may(live, kind, store, size) {
         return Err(Refusal::Left(bytes.len() as u64));

@@ -1,7 +1,7 @@
 //! Reads the fields at the front of bytes, each with the bytes behind it.
-ghost use Rattle.std.specs.Prelude.{◌≡◌, ◌≤◌, ◌<◌, ◌^◌, length, IfOk};
+ghost use Rattle.std.specs.Prelude.{◌≡◌, ◌≤◌, ◌<◌, ◌^◌, true, length, IfOk};
 ghost use Rattle.hse_fields.specs.LogForm.{longest_name, ValueFits};
-ghost use Rattle.hse_fields.specs.LogReading.{number_of, bytes_of, size_of, sized_of, value_of};
+ghost use Rattle.hse_fields.specs.LogReading.{name_in_limits, number_of, bytes_of, sized_of, value_of};
 ghost use Rattle.wal.specs.Given.{Gives, kind_as};
 
 use crate::kind::Kind;
@@ -15,7 +15,7 @@ pub(crate) fn byte_at(bytes: &[u8]) -> Result<(u8, &[u8]), Refusal>
     Ok((number, bytes.split_at(1).1))
 }
 
-fn u16_at(bytes: &[u8]) -> Result<(u16, &[u8]), Refusal>
+pub(crate) fn u16_at(bytes: &[u8]) -> Result<(u16, &[u8]), Refusal>
     ensures { Gives (λ x. (x.0, x.1.now)) result (number_of 2 bytes.now) }
 {
     let number = take_u16(bytes, 0)?;
@@ -45,7 +45,7 @@ pub(crate) fn bytes_at(size: u64, bytes: &[u8]) -> Result<(&[u8], &[u8]), Refusa
 }
 
 /// The most bytes that a key has, and a prefix.
-fn longest(kind: Kind) -> u16
+fn longest(kind: Kind) -> u64
     ensures { result ≡ longest_name (kind_as kind) }
 {
     match kind {
@@ -54,22 +54,13 @@ fn longest(kind: Kind) -> u16
     }
 }
 
-/// How many bytes the key or prefix has.
-#[tactic(auto, unfolding(hse_fields::specs::LogReading::size_of))]
-pub(crate) fn size_at(kind: Kind, bytes: &[u8]) -> Result<(u64, &[u8]), Refusal>
-    ensures gives { Gives (λ x. (x.0, x.1.now)) result
-        (size_of 2 1 (longest_name (kind_as kind)) bytes.now) }
-    ensures some { IfOk result (λ x. 1 ≤ x.0) }
-    ensures short { IfOk result (λ x. x.0 ≤ longest_name (kind_as kind)) }
+/// Whether a key or prefix may have so many bytes, in any store.
+pub(crate) fn size_in_limits(kind: Kind, size: u64) -> bool
+    ensures tells { result ≡ name_in_limits (kind_as kind) size }
+    ensures some { result ≡ true → 1 ≤ size }
+    ensures short { result ≡ true → size ≤ longest_name (kind_as kind) }
 {
-    let (size, rest) = u16_at(bytes)?;
-    if size < 1 {
-        return Err(Refusal::Left(bytes.len() as u64));
-    }
-    if size > longest(kind) {
-        return Err(Refusal::Left(bytes.len() as u64));
-    }
-    Ok((size as u64, rest))
+    1 <= size && size <= longest(kind)
 }
 
 /// The value behind its length.

@@ -76,6 +76,8 @@ pub(crate) fn payload_at<'t>(
     // What the commits take of the room.
     ensures charged { IfOk result (λ x. charges (entries_of x.0.items) + x.1.room
         ≡ expected.entry.room) }
+    // The batch, with the 5 bytes before its payload, takes no more than its commits are charged.
+    ensures sized { IfOk result (λ x. 5 + length bytes.now ≤ charges (entries_of x.0.items)) }
 {
     whole_at(alloc, most, live, expected, bytes)
 }

@@ -22,7 +22,8 @@ const END: u64 = 64;
 /// the log's text refuses, the length of a prefix delete's prefix that is not its live store's, a
 /// commit's number that is not the next one or is above 2^62, a commit that takes more than the
 /// region's size less 64 leaves, at its number, or the length of a batch that does not lie inside the
-/// region. It is never `Device`.
+/// region. A commit that takes too much is refused before any length in its changes, where these can
+/// be read at all, since its number is the lower place. It is never `Device`.
 ///
 /// The conditions: the batches lie inside a region of this size, and the first number is at most
 /// 2^62 + 1.
@@ -40,6 +41,8 @@ pub fn segment_in(
     requires taken { length taken.now < 2 ^ 62 }
     ensures read { (region : List ℕ) → IsFront region (Some front)
         → IsReplay region live.now most (starting next taken.now size) result }
+    // The place lies in the region, or at its end, whatever the device tells.
+    ensures within { (place : ℕ) → IsErrOf result (SegmentFault.Damaged place) → place ≤ size }
     ensures device { IsErrOf result SegmentFault.Device → ⊥ }
     ensures sound { IfOk result (IsSound size next taken.now front) }
 {

@@ -33,13 +33,13 @@ fn commit(alloc: Global) -> Result<Commit, Fail> {
     Ok(Commit { number: 2, writes })
 }
 
-/// The bytes with one of them changed, on a device of 128 bytes.
+/// The bytes with one of them changed, on a device of 144 bytes.
 fn damaged(alloc: Global, place: usize, byte: u8) -> Result<MemDisk, Fail> {
     let mut bytes = BYTES.to_vec(alloc)?;
     if let Some(at) = bytes.get_mut(place) {
         *at = byte;
     }
-    bytes.extend_from_slice(&[0; 80])?;
+    bytes.extend_from_slice(&[0; 96])?;
     Ok(MemDisk::of(alloc, bytes))
 }
 
@@ -54,10 +54,10 @@ fn replay(
     live: &[StorePrefix],
 ) -> Result<Option<Segment>, SegmentFault> {
     let len = disk.bytes().len();
-    assert!(rt; len == 128);
+    assert!(rt; len == 144);
     assert!(rt; taken.len() < 10);
     assert!(rt; size >= 10);
-    assert!(rt; size <= 128);
+    assert!(rt; size <= 144);
     assert!(rt; next <= 4_611_686_018_427_387_905);
     let Some(front) = read_front(alloc, disk, &Region { at: 0, size })? else {
         return Ok(None);
@@ -188,20 +188,21 @@ const DELETES: [u8; 56] = [
     0, // closed gate
 ];
 
-/// How bytes with one of them changed are refused, on a device of 128 bytes, where the prefixes of
-/// store 1 have two bytes and those of store 2 three.
+/// How bytes with one of them changed are refused, as a region of this size on a device of 144 bytes,
+/// where the prefixes of store 1 have two bytes and those of store 2 three.
 fn refused(
     rt: &impl Abort,
     alloc: Global,
     bytes: &[u8; 56],
     place: usize,
     byte: u8,
+    size: u64,
 ) -> Result<Option<SegmentFault>, Fail> {
     let mut bytes = bytes.to_vec(alloc)?;
     if let Some(at) = bytes.get_mut(place) {
         *at = byte;
     }
-    bytes.extend_from_slice(&[0; 72])?;
+    bytes.extend_from_slice(&[0; 88])?;
     let mut disk = MemDisk::of(alloc, bytes);
     let live = [
         StorePrefix {
@@ -213,14 +214,14 @@ fn refused(
             length: 2,
         },
     ];
-    Ok(replay(rt, alloc, &mut disk, 128, 1, 2, &[], &live).err())
+    Ok(replay(rt, alloc, &mut disk, size, 1, 2, &[], &live).err())
 }
 
 #[test]
 fn a_prefix_of_a_live_store_has_its_length(rt: HostRuntime) -> Result<(), Fail> {
-    let taken = refused(&rt, rt.alloc(), &DELETE, 0, 0x4f)?;
+    let taken = refused(&rt, rt.alloc(), &DELETE, 0, 0x4f, 128)?;
     assert_eq!(rt; taken, None);
-    let not_live = refused(&rt, rt.alloc(), &DELETE, 38, 3)?;
+    let not_live = refused(&rt, rt.alloc(), &DELETE, 38, 3, 128)?;
     assert_eq!(rt; not_live, None);
     for (place, byte) in [
         (40, 1), // one byte, where store 1 has two
@@ -228,7 +229,7 @@ fn a_prefix_of_a_live_store_has_its_length(rt: HostRuntime) -> Result<(), Fail> 
         (40, 3), // three bytes, the last of them cut off
         (40, 33), // more than any prefix has
     ] {
-        let fault = refused(&rt, rt.alloc(), &DELETE, place, byte)?;
+        let fault = refused(&rt, rt.alloc(), &DELETE, place, byte, 128)?;
         assert_eq!(rt; fault, Some(SegmentFault::Damaged(39)));
     }
     Ok(())
@@ -238,12 +239,41 @@ fn a_prefix_of_a_live_store_has_its_length(rt: HostRuntime) -> Result<(), Fail> 
 fn of_two_faults_of_a_change_the_lower_place_is_told(rt: HostRuntime) -> Result<(), Fail> {
     for (place, byte, want) in [
         (0, 0x4f, 43), // out of order, and of a wrong length
+        (53, 0, 43), // no byte at all, and so out of order
         (54, 0x63, 52), // of a wrong length
         (53, 3, 52), // of a wrong length, and cut off
+        (53, 33, 52), // more than any prefix has, and cut off
         (53, 2, 54), // cut off, and its first byte breaks the order
     ] {
-        let fault = refused(&rt, rt.alloc(), &DELETES, place, byte)?;
+        let fault = refused(&rt, rt.alloc(), &DELETES, place, byte, 144)?;
         assert_eq!(rt; fault, Some(SegmentFault::Damaged(want)));
     }
+    Ok(())
+}
+
+#[test]
+fn a_commit_over_the_room_is_told_before_its_lengths(rt: HostRuntime) -> Result<(), Fail> {
+    for (place, byte, size, want) in [
+        (38, 2, 120, 18), // two bytes, where store 2 has three; a charge of 57, and room for 56
+        (38, 2, 121, 39), // and room for 57
+        (40, 3, 120, 39), // three bytes, where store 1 has two, the last of them cut off
+    ] {
+        let fault = refused(&rt, rt.alloc(), &DELETE, place, byte, size)?;
+        assert_eq!(rt; fault, Some(SegmentFault::Damaged(want)));
+    }
+    for (place, byte, size, want) in [
+        (54, 0x63, 132, 18), // one byte, where store 1 has two; a charge of 69, and room for 68
+        (54, 0x63, 133, 52), // and room for 69
+        (0, 0x4f, 132, 43), // out of order, so the charge is not told
+    ] {
+        let fault = refused(&rt, rt.alloc(), &DELETES, place, byte, size)?;
+        assert_eq!(rt; fault, Some(SegmentFault::Damaged(want)));
+    }
+    let mut disk = damaged(rt.alloc(), 0, 0x4f)?;
+    // a value of one byte, where none may have any; a charge of 61, and room for 60, then for 61
+    let over = replay(&rt, rt.alloc(), &mut disk, 124, 0, 2, &[], &[]).err();
+    assert_eq!(rt; over, Some(SegmentFault::Damaged(18)));
+    let within = replay(&rt, rt.alloc(), &mut disk, 125, 0, 2, &[], &[]).err();
+    assert_eq!(rt; within, Some(SegmentFault::Damaged(42)));
     Ok(())
 }

@@ -1,8 +1,7 @@
-use Rattle.std.proofs.Common.{◌≡◌, ◌∙◌, ◌∷◌, [], ℕ, true, List, length, refl, ap, Ok}
-use Rattle.std.specs.List.{AllByRecursion}
-use Rattle.hse_fields.specs.LogReading.{any, payload_of, Follow, name_fits, PrefixFits, PrefixesFit}
-use Rattle.hse_fields.specs.LogText.{Kind, Change, put, del, pdel, Entry}
-use Rattle.hse_fields.specs.PayloadLaws.{payload_takes, payload_again}
+use Rattle.std.proofs.Common.{◌≡◌, ◌∙◌, ◌∷◌, [], List, refl, ap, Ok}
+use Rattle.hse_fields.specs.LogReading.{any, payload_of, Follow, PrefixesFit}
+use Rattle.hse_fields.specs.LogText.{Entry}
+use Rattle.hse_fields.specs.PayloadLaws.{any_prefixes_fit, payload_takes, payload_again}
 use Rattle.hse_fields.specs.WithinLaws.{payload_within}
 use Rattle.hse_fields.proofs.laws.log_text_is_read.Goals as goal
 
@@ -12,18 +11,9 @@ any_follow [] = refl
 any_follow (e ∷ es) = (refl, tt, refl, any_follow es)
 
 -- and their prefix deletes may have any lengths
-one_fits : (kind : Kind) (store size : ℕ) → name_fits any.prefix_fits kind store size ≡ true
-one_fits put store size = refl
-one_fits del store size = refl
-one_fits pdel store size = refl
-
-changes_fit : (cs : List Change) → AllByRecursion (PrefixFits any.prefix_fits) cs
-changes_fit [] = tt
-changes_fit (c ∷ cs) = (one_fits c.kind c.store (length c.name), changes_fit cs)
-
 any_fit : (entries : List Entry) → PrefixesFit any.prefix_fits entries
 any_fit [] = tt
-any_fit (e ∷ es) = (changes_fit e.changes, any_fit es)
+any_fit (e ∷ es) = (any_prefixes_fit e.changes, any_fit es)
 
 pub returns-clause-read : goal.returns-clause-read
 returns-clause-read c = λ most bytes entries small e.

@@ -11,7 +11,7 @@ use Rattle.wal.specs.Given.{Refuses}
 use Rattle.wal.specs.Logged.{entry_of, entries_of, charge}
 use Rattle.wal.specs.Numbering.{numbering}
 use Rattle.wal.specs.Replaying.{before, batches_of}
-use Rattle.wal.proofs.BatchesLoop.{goes_on, stops, is_done, tail_goes_on}
+use Rattle.wal.proofs.BatchesLoop.{goes_on, stops, is_done, tail_goes_on, tail_is_done}
 use Rattle.wal.proofs.batches.batches_at.Goals as goal
 
 pub returns-in_err-more-clause-gives : goal.returns-in_err-more-clause-gives
@@ -45,8 +45,14 @@ loop-batch-preserved c =
           (goes_on c.args.live.now c.args.most (entries_of c.loop-batch.commits.items) (numbers_as c.loop-batch.next) c.loop-batch.gate c.args.batches.now c.loop-batch.batch-index batch more (numbers_as c.in_ok-more.after) (batches_of c.args.live.now c.args.most (numbers_as c.args.expected) 9 (payloads_of c.args.batches.now)) c.loop-batch-test.true c.batch-item.is read c.loop-batch.invariant.read);
       charged = omega (arith, sums, c.in_ok-more.ensures.charged, c.loop-batch.invariant.charged);
       tail = omega (arith, end, tail, c.loop-batch.invariant.tail);
+      sized = omega (arith, sums, ap length bytes, end, c.in_ok-more.ensures.sized, c.loop-batch.invariant.sized);
     }
 
 pub returns-clause-gives : goal.returns-clause-gives
 returns-clause-gives c =
     is_done c.args.live.now c.args.most (entries_of c.loop-batch.commits.items) (numbers_as c.loop-batch.next) c.loop-batch.gate c.args.batches.now c.loop-batch.batch-index (batches_of c.args.live.now c.args.most (numbers_as c.args.expected) 9 (payloads_of c.args.batches.now)) c.loop-batch-test.false c.loop-batch.invariant.read
+
+pub returns-clause-sized : goal.returns-clause-sized
+returns-clause-sized c =
+    let none = tail_is_done c.args.batches.now c.loop-batch.batch-index c.loop-batch-test.false in
+    omega (arith, none, c.loop-batch.invariant.tail, c.loop-batch.invariant.sized)

@@ -1,4 +1,4 @@
-use Rattle.std.proofs.Common.{◌≡◌, ◌+◌, drop}
+use Rattle.std.proofs.Common.{◌≡◌, ◌+◌, ◌≤◌, drop}
 use Rattle.std.specs.List.{sum_by}
 use Rattle.gate_log.specs.Places.{need_of, tail_of}
 use Rattle.gate_log.specs.Reading.{payloads_of}
@@ -15,4 +15,5 @@ invariant-loop-batch l = record {
       ≡ batches_of l.live l.most (numbers_as l.expected) 9 (payloads_of l.batches);
   charged : charges (entries_of l.commits.items) + l.next.room ≡ l.expected.room;
   tail : l.gate + sum_by need_of (payloads_of (drop l.batch-index l.batches)) ≡ tail_of (payloads_of l.batches);
+  sized : l.gate ≤ 9 + charges (entries_of l.commits.items);
 }

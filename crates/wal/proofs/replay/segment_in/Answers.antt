@@ -1,4 +1,5 @@
 use Rattle.std.proofs.Common.{◌∙◌, ℕ, List, refl, ap, sym, subst, arith}
+use Rattle.gate_log.specs.Places.{tail_of}
 use Rattle.gate_log.specs.Reading.{payloads_of, Ends, LiesInside}
 use Rattle.gate_log.specs.declared.found.Payload.{Payload}
 use Rattle.gate_log.specs.declared.front.End.{End}
@@ -34,6 +35,7 @@ returns-clause-sound c =
     (entries_of c.in_ok-commits.commits.items, numbers_as c.in_ok-commits.last) c.in_ok-commits.ensures.gives in
     let k = counts c.args.live.now c.args.next c.saturating_sub-room.result c.args.taken.now c.in_ok-commits.commits.items (numbers_as c.in_ok-commits.last) c.requires.next follow in
     let inside = subst (LiesInside c.args.size (payloads_of c.args.front.batches.items)) c.in-Closed.is c.requires.inside in
+    let tail = ap (λ (batches : List Payload). tail_of (payloads_of batches)) c.deref.ensures.value in
     record {
       sequence = refl;
       closed = c.in-Closed.is;
@@ -42,6 +44,7 @@ returns-clause-sound c =
       charged = omega (arith, k.charged);
       fits = omega (arith, k.charged, c.saturating_sub-room.ensures);
       counted = omega (arith, k.charged, k.counted);
+      placed = omega (arith, k.charged, inside.0, tail, c.in_ok-commits.ensures.sized);
       numbers = k.numbers;
       small = k.small;
       numbered = k.numbered;
