@@ -11,9 +11,11 @@ use Rattle.hse_io.specs.Lines.{after_line, lines_of}
 use Rattle.hse_io.specs.LinesLaw.{lines_of-first}
 use Rattle.hse_io.specs.Takes.{Takes}
 use Rattle.media_disk.specs.declared.disk.Disk.{Ghosts}
+use Rattle.hse_shell.specs.Base.{Base}
 use Rattle.hse_shell.specs.Grammar.{Meaning, Means}
 use Rattle.hse_shell.specs.Replies.{Answer, answer_line, opened_text}
-use Rattle.hse_shell.specs.Machine.{Machine, Step, opening, led_to, base_number}
+use Rattle.hse_shell.specs.Machine.{Machine, Step, opening, led_to}
+use Rattle.hse_shell.specs.Stored.{Begins}
 use Rattle.hse_shell.specs.Logged.{Serves}
 use Rattle.hse_shell.specs.Runs.{Run, replies}
 use Rattle.hse_shell.specs.Turns.{Replied}
@@ -71,11 +73,12 @@ took_end (Some all) (Some left) now lines line (rest, is, parts) (none, next) =
     let same : left ≡ rest = cc (is) in
     (([], next, parts ∙ ap (λ (r : List ℕ). lines ++ lines_of r) (sym same ∙ none)), next)
 
-pub replies-push : (answers : List Answer) (answer : Answer) → replies (answers ++ answer ∷ []) ≡ replies answers ++ answer_line answer
-replies-push answers answer =
-    ap (λ (l : List ℕ). opened_text base_number ++ l) (flat_map-append answer_line answers (answer ∷ []))
-    ∙ ap (λ (l : List ℕ). opened_text base_number ++ (flat_map answer_line answers ++ l)) (append-nil (answer_line answer))
-    ∙ sym (append_assoc (opened_text base_number) (flat_map answer_line answers) (answer_line answer))
+pub replies-push : (number : ℕ) (answers : List Answer) (answer : Answer)
+    → replies number (answers ++ answer ∷ []) ≡ replies number answers ++ answer_line answer
+replies-push number answers answer =
+    ap (λ (l : List ℕ). opened_text number ++ l) (flat_map-append answer_line answers (answer ∷ []))
+    ∙ ap (λ (l : List ℕ). opened_text number ++ (flat_map answer_line answers ++ l)) (append-nil (answer_line answer))
+    ∙ sym (append_assoc (opened_text number) (flat_map answer_line answers) (answer_line answer))
 
 -- one line more
 pub short-push : (lines : List (List ℕ)) (line : List ℕ) → AllByRecursion IsShort lines → IsShort line → AllByRecursion IsShort (lines ++ line ∷ [])
@@ -90,25 +93,27 @@ module _ {D : Type 0} (g : Ghosts D) (start : Start D) (left now : Option (List 
   abbrev pub ran_more : (line : List ℕ) (r : Ran g start left) → IfSome left (λ all. Takes all (Ok Text) line now) → IsShort line
       → (meaning : Meaning) (answer : Answer) → Means line meaning → Step r.state meaning answer (led_to r.state meaning answer) → Ran g start now
   ran_more line r takes short meaning answer means step = record {
+    base = r.base;
+    begins = r.begins;
     lines = r.lines ++ line ∷ [];
     answers = r.answers ++ answer ∷ [];
     state = led_to r.state meaning answer;
-    run = Run-push opening r.state (led_to r.state meaning answer) r.lines r.answers line answer meaning r.run means step;
+    run = Run-push (opening r.base) r.state (led_to r.state meaning answer) r.lines r.answers line answer meaning r.run means step;
     took = took_line start.input left now r.lines line r.took takes;
     short = short-push r.lines line r.short short;
-    empty = r.empty;
   }
 
   -- the input is at its end
   abbrev pub ran_ended : (line : List ℕ) (r : Ran g start left) → IfSome left (λ all. Takes all (Ok Ended) line now) → Ran g start now
   ran_ended line r takes = record {
+    base = r.base;
+    begins = r.begins;
     lines = r.lines;
     answers = r.answers;
     state = r.state;
     run = r.run;
     took = (took_end start.input left now r.lines line r.took takes).0;
     short = r.short;
-    empty = r.empty;
   }
 
 module _ {D : Type 0} (g : Ghosts D) (start : Start D) (left now between after : Option (List ℕ)) (old new : D) (engine next : Engine) (taken : ℕ) where
@@ -117,11 +122,11 @@ module _ {D : Type 0} (g : Ghosts D) (start : Start D) (left now between after :
       → IfSome left (λ all. Takes all (Ok Text) line now) → IsShort line → Replied g s.ran.state line between after new next
       → SoFar g start now after new next (taken + length line + 1)
   so_far_more line s takes short r = record {
-    ran = ran_more g start left now line s.ran takes short r.meaning r.answer r.means r.turned.step;
-    wrote = subst (Appends start.held after) (sym (replies-push s.ran.answers r.answer))
-        (Appends-both start.held between after (replies s.ran.answers) (answer_line r.answer) s.wrote r.wrote);
+    ran = ran_more g start left now line s.ran takes short r.turned.meaning r.turned.answer r.turned.means r.turned.turned.step;
+    wrote = subst (Appends start.held after) (sym (replies-push s.ran.base.number s.ran.answers r.turned.answer))
+        (Appends-both start.held between after (replies s.ran.base.number s.ran.answers) (answer_line r.turned.answer) s.wrote r.wrote);
     counted = omega (arith, s.counted, script_length-push s.ran.lines line);
-    serves = r.turned.serves;
+    serves = r.turned.turned.serves;
   }
 
 module _ {D : Type 0} (g : Ghosts D) (start : Start D) (left now after : Option (List ℕ)) (disk : D) (engine : Engine) (taken : ℕ) where
@@ -137,25 +142,26 @@ pub took_none : (input : Option (List ℕ)) → Took input [] input
 took_none None = tt
 took_none (Some all) = (all, refl, refl)
 
-module _ {D : Type 0} (g : Ghosts D) (start : Start D) (empty : g.tells → g.seen start.device ≡ []) where
+module _ {D : Type 0} (g : Ghosts D) (start : Start D) (base : Base) (begins : g.tells → Begins (g.seen start.device) base) where
   -- no line was taken
   abbrev pub ran_none : Ran g start start.input
   ran_none = record {
+    base = base;
+    begins = begins;
     lines = [];
     answers = [];
-    state = opening;
+    state = opening base;
     run = refl;
     took = took_none start.input;
     short = tt;
-    empty = empty;
   }
 
   -- and the opening's line was written
-  pub so_far_opened : (after : Option (List ℕ)) (disk : D) (engine : Engine) → Serves g disk engine opening → (number : ℕ) → number ≡ base_number → Appends start.held after (opened_text number)
-      → SoFar g start start.input after disk engine 0
-  so_far_opened after disk engine serves number base wrote = record {
+  pub so_far_opened : (after : Option (List ℕ)) (disk : D) (engine : Engine) → Serves g disk engine (opening base)
+      → Appends start.held after (opened_text base.number) → SoFar g start start.input after disk engine 0
+  so_far_opened after disk engine serves wrote = record {
     ran = ran_none;
-    wrote = subst (Appends start.held after) (ap opened_text base ∙ sym (append-nil (opened_text base_number))) wrote;
+    wrote = subst (Appends start.held after) (sym (append-nil (opened_text base.number))) wrote;
     counted = refl;
     serves = serves;
   }

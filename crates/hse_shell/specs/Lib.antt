@@ -1,3 +1,4 @@
+pub mod Base
 pub mod Change
 pub mod Commands
 pub mod Ending
@@ -6,7 +7,9 @@ pub mod Grammar
 pub mod LogText
 pub mod Logged
 pub mod Machine
+pub mod Marks
 pub mod Pieces
+pub mod Replayed
 pub mod Replies
 pub mod ReplyView
 pub mod Rows

@@ -1,43 +1,54 @@
 -- The snapshot machine: what the lines of a script do, a step a line.
-use Rattle.std.specs.Prelude.{◌≡◌, ℕ, ◌+◌, ◌-◌, nat_lt, if◌then◌else◌, List, [], ◌∷◌, ◌++◌, length, drop, Option, Some, None}
+use Rattle.std.specs.Prelude.{◌≡◌, ℕ, ◌+◌, ◌-◌, nat_lt, if◌then◌else◌, List, [], ◌∷◌, ◌++◌, length, take, drop, Option, Some, None}
 use Rattle.std.specs.FinMap as map
+use Rattle.hse_shell.specs.Base.{Base}
 use Rattle.hse_shell.specs.Change.{Change, put, del, Contents, after}
 use Rattle.hse_shell.specs.Grammar.{Meaning, puts, dels, gets, syncs, silent, unknown}
 use Rattle.hse_shell.specs.LogText.{charge_of, charges_of}
 use Rattle.hse_shell.specs.Replies.{Answer, no_reply, ok, value, none, bad_line, no_memory, key_length, log_full}
 
--- A state of the machine: the commits since the base in order, each of one change, and how many of them the last
--- finished sync had.
+-- A state of the machine: the base that it began with, the commits since in order, each of one change, how many of
+-- them are safe, and the numbers of its marks, first the base's.
 pub record Machine : Type 0 where
+  pub base : Base
   pub history : List Change
   pub synced : ℕ
+  pub marked : List ℕ
 
--- the number of the base
-abbrev pub base_number : ℕ
-base_number = 1
-
--- the base, before any commit
-abbrev pub opening : Machine
-opening = record { history = []; synced = 0 }
+-- the state before any commit
+abbrev pub opening : Base → Machine
+opening base = record { base = base; history = []; synced = 0; marked = base.number ∷ [] }
 
 -- the last number of the history
 abbrev pub number_of : Machine → ℕ
-number_of m = base_number + length m.history
+number_of m = m.base.number + length m.history
 
 -- what the store holds now
 abbrev pub contents_of : Machine → Contents
-contents_of m = after map.empty m.history
+contents_of m = after m.base.contents m.history
+
+-- what all commits take of the log's room
+abbrev pub charges_until : Machine → ℕ
+charges_until m = m.base.charges + charges_of m.history
+
+-- what a device stores that has so many of the commits
+abbrev pub base_at : Machine → ℕ → Base
+base_at m count = record {
+  number = m.base.number + count;
+  contents = after m.base.contents (take count m.history);
+  charges = m.base.charges + charges_of (take count m.history);
+}
 
 -- the most bytes that a key has
 abbrev pub longest_key : ℕ
 longest_key = 1344
 
--- the most that the charges of all commits sum to
+-- the most that the charges of all commits sum to, the base's too
 abbrev pub room : ℕ
 room = 4194240
 
 abbrev pub room_left : Machine → ℕ
-room_left m = room - charges_of m.history
+room_left m = room - charges_until m
 
 -- a key's length outside the limit
 abbrev pub key_refusal : List ℕ → Option Answer → Option Answer
@@ -59,11 +70,19 @@ refusal m unknown = Some bad_line
 
 -- the state with one commit more
 abbrev pub committed : Machine → Change → Machine
-committed m change = record { history = m.history ++ change ∷ []; synced = m.synced }
+committed m change = record { base = m.base; history = m.history ++ change ∷ []; synced = m.synced; marked = m.marked }
+
+-- the state once all commits are safe
+abbrev pub flushed : Machine → Machine
+flushed m = record { base = m.base; history = m.history; synced = length m.history; marked = m.marked }
+
+-- the state once all is marked as safe
+abbrev pub noted : Machine → Machine
+noted m = record { base = m.base; history = m.history; synced = m.synced; marked = m.marked ++ number_of m ∷ [] }
 
 -- the state after a finished sync
 abbrev pub all_synced : Machine → Machine
-all_synced m = record { history = m.history; synced = length m.history }
+all_synced m = noted (flushed m)
 
 -- From old a line may get this answer, and lead to new.
 abbrev pub Step : Machine → Meaning → Answer → Machine → Type 0

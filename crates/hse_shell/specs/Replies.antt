@@ -35,6 +35,6 @@ opened_text number = codes "opened " ++ (decimal number ++ 10 ∷ [])
 abbrev pub closed_text : ℕ → List ℕ
 closed_text number = codes "closed " ++ (decimal number ++ 10 ∷ [])
 
--- the line of a run that finds this many bytes where it wants none
-abbrev pub not_empty_text : ℕ → List ℕ
-not_empty_text size = codes "fault not-empty " ++ (decimal size ++ 10 ∷ [])
+-- the line of a run on a device that is refused at this place of its log
+abbrev pub not_formed_text : ℕ → List ℕ
+not_formed_text place = codes "fault not-formed log-1 " ++ (decimal place ++ 10 ∷ [])

@@ -1,10 +1,12 @@
 -- A run of a script up to some line.
-use Rattle.std.specs.Prelude.{◌≡◌, ℕ, ◌+◌, ◌≤◌, ◌^◌, List, [], ◌++◌, length, sum_by, Option, Some, IfSome}
+use Rattle.std.specs.Prelude.{◌≡◌, ℕ, ◌+◌, ◌≤◌, ◌^◌, List, ◌++◌, length, sum_by, Option, Some, IfSome}
 use Rattle.std.specs.Io.KnownBytes.{Appends}
 use Rattle.std.specs.List.{AllByRecursion}
 use Rattle.hse_io.specs.Lines.{lines_of}
 use Rattle.hse_io.specs.Longest.{longest_line}
 use Rattle.media_disk.specs.declared.disk.Disk.{Ghosts}
+use Rattle.hse_shell.specs.Base.{Base}
+use Rattle.hse_shell.specs.Stored.{Begins}
 use Rattle.hse_shell.specs.Replies.{Answer}
 use Rattle.hse_shell.specs.Machine.{Machine, opening}
 use Rattle.hse_shell.specs.Logged.{Serves}
@@ -33,19 +35,20 @@ script_length lines = sum_by (λ line. length line + 1) lines
 abbrev pub script_limit : ℕ
 script_limit = 2 ^ 40
 
--- On a device that was empty, these lines were taken, and these are answers of the machine to them.
+-- From what the device stored these lines were taken, and these are answers of the machine to them.
 pub record Ran {D : Type 0} (g : Ghosts D) (start : Start D) (left : Option (List ℕ)) : Type 0 where
+  pub base : Base
+  pub begins : g.tells → Begins (g.seen start.device) base
   pub lines : List (List ℕ)
   pub answers : List Answer
   pub state : Machine
-  pub run : Run opening lines answers state
+  pub run : Run (opening base) lines answers state
   pub took : Took start.input lines left
   pub short : AllByRecursion IsShort lines
-  pub empty : g.tells → g.seen start.device ≡ []
 
 -- Each line that was taken has its reply written; the engine and the device serve the state they led to.
 pub record SoFar {D : Type 0} (g : Ghosts D) (start : Start D) (left after : Option (List ℕ)) (disk : D) (engine : Engine) (taken : ℕ) : Type 0 where
   pub ran : Ran g start left
-  pub wrote : Appends start.held after (replies ran.answers)
+  pub wrote : Appends start.held after (replies ran.base.number ran.answers)
   pub counted : taken ≡ script_length ran.lines
   pub serves : Serves g disk engine ran.state

@@ -26,7 +26,7 @@ pub(crate) fn answer<K: Sink, D: Disk>(
     ensures replied { OnOk result ((m : Machine) → Serves D.Disk disk.old engine.old m
         → Replied D.Disk m line.now (K.contents sink.old) (K.contents sink.new) disk.new engine.new) }
     ensures unreplied { IfErr result (λ ended. (m : Machine) → Serves D.Disk disk.old engine.old m
-        → Unreplied ended m line.now (K.contents sink.old) (K.contents sink.new)) }
+        → Unreplied D.Disk ended m line.now (K.contents sink.old) (K.contents sink.new) disk.new engine.new.marks.items) }
     ensures read { IsErrOf result Status.ReadFault → ⊥ }
     ensures write { IsErrOf result Status.WriteFault → Rose (K.faults sink.old) (K.faults sink.new) }
     ensures device { IsErrOf result Status.DeviceFault → Rose (D.faults disk.old) (D.faults disk.new) }

@@ -7,7 +7,7 @@ use crate::append::append;
 use hse_io::NoMemory;
 
 /// The id of the one store.
-const STORE: u64 = 1;
+pub(crate) const STORE: u64 = 1;
 
 /// How many changes an entry has here.
 const CHANGES: u32 = 1;

@@ -8,8 +8,10 @@ mod command;
 mod ending;
 mod engine;
 mod entry;
+mod laws;
 mod log;
 mod open;
+mod replay;
 mod reply;
 mod rows;
 mod run;
@@ -20,4 +22,5 @@ mod turn;
 
 pub use command::lines_have_one_meaning;
 pub use ending::tell;
+pub use laws::devices_have_one_reading;
 pub use run::run_script;

@@ -6,7 +6,7 @@ use crate::engine::Engine;
 use crate::reply::Reply;
 use byteorder::{BigEndian, ByteOrder};
 use gate_log::{AppendFault, Batch, Region, append};
-use hse_io::Mark;
+use hse_io::{Mark, Outcome, Status};
 use media_disk::{Disk, Failed};
 use std::alloc::Global;
 
@@ -38,28 +38,35 @@ fn write_count(payload: &mut Vec<u8>, count: u32)
 // Adds a mark in room that was made before.
 fn push_reserved(marks: &mut Vec<Mark>, mark: Mark)
     requires { vec_len marks.old < vec_capacity marks.old }
-    ensures { marks.new.items ≡ marks.old.items ++ mark ∷ [] }
+    ensures items { marks.new.items ≡ marks.old.items ++ mark ∷ [] }
+    ensures room { vec_capacity marks.old ≤ vec_capacity marks.new }
 {
     marks.push(mark).unwrap();
 }
 
 impl Engine {
-    ghost use Rattle.std.specs.Prelude.{◌≡◌, ◌≢◌, ◌<◌, ◌≤◌, ◌++◌, ◌∷◌, [], ℕ, length, Ok, IfOk, OnOk, OnErr, IsErrOf, vec_len, vec_capacity};
+    ghost use Rattle.std.specs.Prelude.{◌≡◌, ◌≢◌, ◌+◌, ◌<◌, ◌≤◌, ◌++◌, ◌∷◌, [], ℕ, length, Ok, IfOk, OnOk, OnErr, IsErrOf, vec_len, vec_capacity};
     ghost use Rattle.hse_io.specs.Faults.{Rose, HasCause};
+    ghost use Rattle.hse_io.specs.declared.outcome.Mark.{Mark as a_mark};
     ghost use Rattle.hse_shell.specs.declared.log.FlushFault.{FlushFault};
-    ghost use Rattle.hse_shell.specs.Machine.{Machine, all_synced};
+    ghost use Rattle.hse_shell.specs.Machine.{Machine, flushed, noted, all_synced};
     ghost use Rattle.hse_shell.specs.Grammar.{syncs};
+    ghost use Rattle.hse_shell.specs.Marks.{Marked, mark_of};
     ghost use Rattle.hse_shell.specs.ReplyView.{answer_of};
     ghost use Rattle.hse_shell.specs.Logged.{Serves, ServesLine};
+    ghost use Rattle.hse_shell.specs.Stands.{NotesOnly};
     ghost use Rattle.hse_shell.specs.Stored.{device_size};
 
     /// Puts the waiting commits on the device as one batch. Where none waits there is no device call.
     pub(crate) fn flush<D: Disk>(&mut self, alloc: Global, disk: &mut D) -> Result<(), FlushFault>
         requires { D.extent disk.old ≡ device_size }
         ensures synced { OnOk result ((m : Machine) → Serves D.Disk disk.old self.old m
-            → Serves D.Disk disk.new self.new (all_synced m)) }
+            → Serves D.Disk disk.new self.new (flushed m)) }
         ensures no_memory { IsErrOf result FlushFault.NoMemory → (m : Machine)
             → Serves D.Disk disk.old self.old m → Serves D.Disk disk.new self.new m }
+        // Where the device fails, what is left of the marks holds with all commits, safe or not.
+        ensures marked { IsErrOf result FlushFault.Device → (m : Machine)
+            → Serves D.Disk disk.old self.old m → Marked D.Disk disk.new self.new.marks.items m }
         ensures device { IsErrOf result FlushFault.Device → Rose (D.faults disk.old) (D.faults disk.new) }
         ensures later { D.faults disk.old ≤ D.faults disk.new }
         ensures idle { self.old.count ≡ 0 → disk.new ≡ disk.old }
@@ -87,19 +94,16 @@ impl Engine {
         Ok(())
     }
 
-    // Notes that all commits are safe from now on, in room that was made before.
-    pub(crate) fn note<D: Disk>(&mut self, disk: &D)
-        requires { vec_len self.old.marks < vec_capacity self.old.marks }
-        ensures noted { self.new.marks.items ≡ self.old.marks.items
-            ++ (record { life = 0; number = self.old.number; moment = D.moment disk.now }) ∷ [] }
-        ensures number { self.new.number ≡ self.old.number }
-        ensures serves { (m : Machine) → m.synced ≡ length m.history
-            → Serves D.Disk disk.now self.old m → Serves D.Disk disk.now self.new m }
+    // Notes that all commits are safe since this clock, in room that was made before.
+    pub(crate) fn note(&mut self, moment: u64)
+        requires { vec_len self.old.marks + 1 < vec_capacity self.old.marks }
+        ensures kept { NotesOnly self.old self.new }
+        ensures marks { self.new.marks.items ≡ self.old.marks.items ++ mark_of self.old.number moment ∷ [] }
     {
         let mark = Mark {
             life: 0,
             number: self.number,
-            moment: disk.clock(),
+            moment,
         };
         push_reserved(&mut self.marks, mark);
     }
@@ -113,15 +117,16 @@ impl Engine {
         requires { D.extent disk.old ≡ device_size }
         ensures answers { IfOk result (λ reply. (m : Machine) → Serves D.Disk disk.old self.old m
             → ServesLine D.Disk m syncs (answer_of reply) disk.new self.new) }
-        // A sync that is answered by a number leaves a mark of that number.
-        ensures noted { (n : ℕ) → result ≡ Ok (Reply.Ok n) → self.new.marks.items ≡ self.old.marks.items
-            ++ (record { life = 0; number = n; moment = D.moment disk.new }) ∷ [] }
+        // Where the device fails, what is left of the marks holds with all commits, safe or not.
+        ensures marked { OnErr result ((m : Machine) → Serves D.Disk disk.old self.old m
+            → Marked D.Disk disk.new self.new.marks.items m) }
         ensures cause { HasCause (D.faults disk.old) (D.faults disk.new) result }
         ensures last { OnErr result (D.failed_at disk.new ≡ D.moment disk.new) }
         ensures asked { OnErr result (self.old.count ≢ 0) }
         ensures extent { D.extent disk.new ≡ D.extent disk.old }
     {
-        let Ok(()) = self.marks.reserve(1) else {
+        // One for this mark, and one for that of the closing.
+        let Ok(()) = self.marks.reserve(2) else {
             return Ok(Reply::NoMemory);
         };
         match self.flush(alloc, disk) {
@@ -129,7 +134,34 @@ impl Engine {
             Err(FlushFault::NoMemory) => return Ok(Reply::NoMemory),
             Err(FlushFault::Device) => return Err(Failed),
         }
-        self.note(disk);
+        self.note(disk.clock());
         Ok(Reply::Ok(self.number))
+    }
+
+    /// The marks with that of the closing, which found all commits safe since this clock.
+    pub(crate) fn closed_at(self, moment: u64) -> Vec<Mark>
+        ensures { result.items ≡ self.marks.items ++ mark_of self.number moment ∷ [] }
+    {
+        let Engine {
+            mut marks,
+            number,
+            ..
+        } = self;
+        let mark = Mark {
+            life: 0,
+            number,
+            moment,
+        };
+        push_reserved(&mut marks, mark);
+        marks
+    }
+
+    /// How a run ends early.
+    pub(crate) fn ended(self, status: Status) -> Outcome
+        ensures status { result.status ≡ status }
+        ensures marks { result.marks ≡ self.marks }
+    {
+        let Engine { marks, .. } = self;
+        Outcome { status, marks }
     }
 }

@@ -1,22 +1,27 @@
-//! Opens an empty device.
-ghost use Rattle.std.specs.Prelude.{◌≡◌, ◌≢◌, ℕ, ◌<◌, ◌≤◌, [], IfOk, OnOk, OnErr, IsErrOf};
+//! Opens a device: formats an empty one, and reads the log of another.
+ghost use Rattle.std.specs.Prelude.{◌≡◌, ◌≢◌, ℕ, ◌+◌, ◌<◌, ◌≤◌, List, [], Some, IfOk, OnOk, OnErr, IsErrOf, vec_len, vec_capacity};
 ghost use Rattle.hse_io.specs.Faults.{Rose, HasCause};
+ghost use Rattle.gate_log.specs.Gates.{IsShut};
+ghost use Rattle.gate_log.specs.Places.{region_of};
+ghost use Rattle.gate_log.specs.Reading.{IsFront, LiesInside, payloads_of};
 ghost use Rattle.hse_shell.specs.Machine.{opening};
-ghost use Rattle.hse_shell.specs.Logged.{Serves, IsStarted, IsUntouched, WasEmptyOrStays};
+ghost use Rattle.hse_shell.specs.Stands.{IsIdle, base_in};
+ghost use Rattle.hse_shell.specs.Stored.{device_size, log_region, base_of, Stores, Begins, IsRefusedAt};
+ghost use Rattle.hse_shell.specs.Logged.{Serves, Stays, WasEmptyOrStays};
 
 use crate::engine::Engine;
 use crate::log::{DEVICE_SIZE, LOG};
-use crate::rows::Rows;
-use gate_log::{Tail, start};
-use hse_io::{Mark, NoMemory};
+use crate::replay::{Replayed, replay};
+use gate_log::{Front, FrontFault, read_front, start};
+use hse_io::NoMemory;
 use media_disk::{Disk, Failed};
 use std::alloc::Global;
 
 /// Why a device was not opened.
 #[derive(Clone, Copy, Debug, PartialEq, Eq)]
 pub(crate) enum OpenFault {
-    /// The device holds this many bytes.
-    NotEmpty(u64),
+    /// At this place of the log, in bytes, stands the first field that is refused.
+    NotFormed(u64),
     Device,
     NoMemory,
 }
@@ -46,66 +51,105 @@ fn give_size<D: Disk>(disk: &mut D, size: u64) -> Result<(), Failed>
     Ok(())
 }
 
-// Asks for the device's size.
-fn measure<D: Disk>(disk: &mut D) -> Result<u64, Failed>
-    ensures untouched { IfOk result (λ size. IsUntouched D.Disk disk.old disk.new size) }
-    ensures empty { IfOk result (λ size. size ≡ 0 → D.tells → D.seen disk.old ≡ []) }
-    ensures extent { IfOk result (λ size. D.extent disk.new ≡ size) }
-    ensures seen { D.tells → D.seen disk.new ≡ D.seen disk.old }
+// Makes the empty device one started region, and notes that the base is safe.
+fn format<D: Disk>(disk: &mut D, engine: &mut Engine) -> Result<(), Failed>
+    requires empty { D.extent disk.old ≡ 0 }
+    requires base { base_in engine.old ≡ base_of [] }
+    requires idle { IsIdle engine.old }
+    requires unmarked { engine.old.marks.items ≡ [] }
+    requires room { vec_len engine.old.marks + 1 < vec_capacity engine.old.marks }
+    ensures serves { OnOk result (Serves D.Disk disk.new engine.new (opening (base_in engine.new))) }
+    ensures base { base_in engine.new ≡ base_in engine.old }
     ensures cause { HasCause (D.faults disk.old) (D.faults disk.new) result }
     ensures last { OnErr result (D.failed_at disk.new ≡ D.moment disk.new) }
 {
-    disk.size()
-}
-
-// Makes the empty device one started region, whose closed gate is at the tail.
-fn format<D: Disk>(disk: &mut D) -> Result<Tail, OpenFault>
-    ensures started { IfOk result (λ tail. IsStarted D.Disk disk.new tail.gate) }
-    ensures tail { IfOk result (λ tail. tail.gate ≡ 9) }
-    ensures not_empty { (size : ℕ) → IsErrOf result (OpenFault.NotEmpty size) → (size ≢ 0) × IsUntouched D.Disk disk.old disk.new size }
-    ensures device { IsErrOf result OpenFault.Device → Rose (D.faults disk.old) (D.faults disk.new) }
-    ensures empty { OnOk result (D.tells → D.seen disk.old ≡ []) }
-    ensures kept { WasEmptyOrStays D.Disk disk.old disk.new }
-    ensures memory { IsErrOf result OpenFault.NoMemory → ⊥ }
-    ensures at_once { D.faults disk.old < D.faults disk.new → IsErrOf result OpenFault.Device }
-    ensures last { IsErrOf result OpenFault.Device → D.failed_at disk.new ≡ D.moment disk.new }
-    ensures later { D.faults disk.old ≤ D.faults disk.new }
-{
-    let size = measure(disk)?;
-    if size != 0 {
-        return Err(OpenFault::NotEmpty(size));
-    }
     give_size(disk, DEVICE_SIZE)?;
-    Ok(start(disk, &LOG, 1)?)
+    let tail = start(disk, &LOG, 1)?;
+    engine.tail = tail;
+    engine.note(disk.clock());
+    Ok(())
 }
 
-/// Opens an empty device: formats it, and notes that the base is safe.
-pub(crate) fn open<D: Disk>(alloc: Global, disk: &mut D) -> Result<Engine, OpenFault>
-    ensures serves { IfOk result (λ engine. Serves D.Disk disk.new engine opening) }
-    ensures empty { OnOk result (D.tells → D.seen disk.old ≡ []) }
-    ensures kept { WasEmptyOrStays D.Disk disk.old disk.new }
-    ensures not_empty { (size : ℕ) → IsErrOf result (OpenFault.NotEmpty size) → (size ≢ 0) × IsUntouched D.Disk disk.old disk.new size }
+// The front of the log. A closed head is refused.
+fn read_log<D: Disk>(alloc: Global, disk: &mut D) -> Result<Front, OpenFault>
+    requires { D.extent disk.old ≡ device_size }
+    ensures found { D.tells
+        → IfOk result (λ front. IsFront (region_of log_region (D.seen disk.old)) (Some front)) }
+    ensures inside { IfOk result (λ front. LiesInside device_size (payloads_of front.batches.items) front.end) }
+    ensures refused { (place : ℕ) → IsErrOf result (OpenFault.NotFormed place)
+        → (place ≡ 0) × (D.tells → IsShut (region_of log_region (D.seen disk.old))) }
+    ensures device { IsErrOf result OpenFault.Device → Rose (D.faults disk.old) (D.faults disk.new) }
+    ensures at_once { D.faults disk.old < D.faults disk.new → IsErrOf result OpenFault.Device }
+    ensures last { IsErrOf result OpenFault.Device → D.failed_at disk.new ≡ D.moment disk.new }
+    ensures later { D.faults disk.old ≤ D.faults disk.new }
+    ensures extent { D.extent disk.new ≡ D.extent disk.old }
+    ensures clock { D.moment disk.old ≤ D.moment disk.new }
+    ensures seen { D.tells → D.seen disk.new ≡ D.seen disk.old }
+    ensures pending { D.tells → D.pending disk.new ≡ D.pending disk.old }
+    ensures crash { D.tells → (clock : ℕ) (image : List ℕ) → clock ≤ D.moment disk.old
+        → D.could disk.new clock image → D.could disk.old clock image }
+{
+    match read_front(alloc, disk, &LOG) {
+        Ok(Some(front)) => Ok(front),
+        Ok(None) => Err(OpenFault::NotFormed(0)),
+        Err(FrontFault::Device) => Err(OpenFault::Device),
+        Err(FrontFault::NoMemory) => Err(OpenFault::NoMemory),
+    }
+}
+
+// Reads the log of a device that has the size of one, and notes that what it stores is safe.
+fn recover<D: Disk>(alloc: Global, disk: &mut D, engine: &mut Engine) -> Result<(), OpenFault>
+    requires sized { D.extent disk.old ≡ device_size }
+    requires idle { IsIdle engine.old }
+    requires unmarked { engine.old.marks.items ≡ [] }
+    requires room { vec_len engine.old.marks + 1 < vec_capacity engine.old.marks }
+    ensures serves { OnOk result (Serves D.Disk disk.new engine.new (opening (base_in engine.new))) }
+    ensures stores { D.tells → OnOk result (Stores (D.seen disk.old) (base_in engine.new)) }
+    ensures refused { (place : ℕ) → IsErrOf result (OpenFault.NotFormed place)
+        → D.tells → IsRefusedAt (D.seen disk.old) place }
+    ensures stays { D.tells → Stays D.Disk disk.old disk.new }
     ensures device { IsErrOf result OpenFault.Device → Rose (D.faults disk.old) (D.faults disk.new) }
     ensures at_once { D.faults disk.old < D.faults disk.new → IsErrOf result OpenFault.Device }
     ensures last { IsErrOf result OpenFault.Device → D.failed_at disk.new ≡ D.moment disk.new }
     ensures later { D.faults disk.old ≤ D.faults disk.new }
 {
-    let Ok(marks) = Vec::with_capacity(alloc, 1) else {
-        return Err(OpenFault::NoMemory);
-    };
-    let Ok(waiting) = Vec::from_slice(alloc, &[0; 4]) else {
-        return Err(OpenFault::NoMemory);
-    };
-    let tail = format(disk)?;
-    let mut engine = Engine {
-        rows: Rows::new(alloc),
-        number: 1,
-        charges: 0,
-        waiting,
-        count: 0,
+    disk.sync()?;
+    let moment = disk.clock();
+    let front = read_log(alloc, disk)?;
+    let Replayed {
+        rows,
+        number,
+        charges,
         tail,
-        marks,
+    } = replay(alloc, front)?;
+    engine.rows = rows;
+    engine.number = number;
+    engine.charges = charges;
+    engine.tail = tail;
+    engine.note(moment);
+    Ok(())
+}
+
+/// Opens a device: formats an empty one, reads the log of another, and notes that what it stores is safe. Before the
+/// log is read a sync leaves nothing pending.
+pub(crate) fn open<D: Disk>(alloc: Global, disk: &mut D) -> Result<Engine, OpenFault>
+    ensures serves { IfOk result (λ engine. Serves D.Disk disk.new engine (opening (base_in engine))) }
+    ensures begins { IfOk result (λ engine. D.tells → Begins (D.seen disk.old) (base_in engine)) }
+    ensures refused { (place : ℕ) → IsErrOf result (OpenFault.NotFormed place)
+        → D.tells → IsRefusedAt (D.seen disk.old) place × Stays D.Disk disk.old disk.new }
+    ensures stays { OnErr result (WasEmptyOrStays D.Disk disk.old disk.new) }
+    ensures device { IsErrOf result OpenFault.Device → Rose (D.faults disk.old) (D.faults disk.new) }
+    ensures at_once { D.faults disk.old < D.faults disk.new → IsErrOf result OpenFault.Device }
+    ensures last { IsErrOf result OpenFault.Device → D.failed_at disk.new ≡ D.moment disk.new }
+    ensures later { D.faults disk.old ≤ D.faults disk.new }
+{
+    let Ok(mut engine) = Engine::new(alloc) else {
+        return Err(OpenFault::NoMemory);
     };
-    engine.note(disk);
+    match disk.size()? {
+        0 => format(disk, &mut engine)?,
+        DEVICE_SIZE => recover(alloc, disk, &mut engine)?,
+        _ => return Err(OpenFault::NotFormed(0)),
+    }
     Ok(engine)
 }

@@ -1,6 +1,6 @@
 //! Replies, and their texts.
 ghost use Rattle.std.specs.Prelude.{◌≡◌, [], ◌∷◌, ◌++◌, decimal, OnOk, OnErr};
-ghost use Rattle.hse_shell.specs.Replies.{answer_line, opened_text, closed_text, not_empty_text};
+ghost use Rattle.hse_shell.specs.Replies.{answer_line, opened_text, closed_text, not_formed_text};
 ghost use Rattle.hse_shell.specs.ReplyView.{answer_of};
 
 use crate::append::append;
@@ -67,13 +67,13 @@ pub(crate) fn closed_line(number: u64, into: &mut Vec<u8>) -> Result<(), NoMemor
     numbered_line(b"closed ", number, into)
 }
 
-/// Appends the line of a run that finds this many bytes where it wants none. Where memory is
+/// Appends the line of a run whose device is refused at this place of its log. Where memory is
 /// refused nothing is appended.
-pub(crate) fn not_empty_line(size: u64, into: &mut Vec<u8>) -> Result<(), NoMemory>
-    ensures written { OnOk result (into.new.items ≡ into.old.items ++ not_empty_text size) }
+pub(crate) fn not_formed_line(place: u64, into: &mut Vec<u8>) -> Result<(), NoMemory>
+    ensures written { OnOk result (into.new.items ≡ into.old.items ++ not_formed_text place) }
     ensures unchanged { OnErr result (into.new.items ≡ into.old.items) }
 {
-    numbered_line(b"fault not-empty ", size, into)
+    numbered_line(b"fault not-formed log-1 ", place, into)
 }
 
 /// Appends the words, the number and a line feed, or nothing.

@@ -3,13 +3,16 @@ ghost use Rattle.std.specs.Prelude.{◌≡◌, ◌⊎◌, ◌<◌, ◌≤◌, []
 ghost use Rattle.std.specs.Io.KnownBytes.{Appends};
 ghost use Rattle.hse_io.specs.Faults.{Rose};
 ghost use Rattle.hse_shell.specs.Ending.{AppendsOrFails};
-ghost use Rattle.hse_shell.specs.Ends.{EndsTold, Ends, Greets, IsGoodInput};
-ghost use Rattle.hse_shell.specs.Logged.{WasEmptyOrStays};
-ghost use Rattle.hse_shell.specs.Replies.{opened_text, not_empty_text};
+ghost use Rattle.hse_shell.specs.Ends.{EndsServed, EndsTold, Ends, Greets, IsGoodImage, IsGoodInput};
+ghost use Rattle.hse_shell.specs.Logged.{Opened, WasEmptyOrStays};
+ghost use Rattle.hse_shell.specs.Stored.{device_size};
+ghost use Rattle.hse_shell.specs.Replies.{opened_text, not_formed_text};
 
+use crate::closing::close;
 use crate::ending::tell;
+use crate::engine::Engine;
 use crate::open::{OpenFault, open};
-use crate::reply::{not_empty_line, opened_line};
+use crate::reply::{not_formed_line, opened_line};
 use crate::script::{Script, answer_all};
 use hse_io::{Outcome, Sink, Source, Status};
 use media_disk::Disk;
@@ -32,21 +35,64 @@ fn greet<K: Sink>(sink: &mut K, number: u64, text: &mut Vec<u8>) -> Result<(), S
     }
 }
 
-/// Tells that the device holds something. Where there is no memory for the line, that ends the run.
-fn refuse<K: Sink>(sink: &mut K, size: u64, text: &mut Vec<u8>) -> Status
-    ensures status { (result ≡ Status.NotEmpty) ⊎ (result ≡ Status.NoMemory) }
-    ensures told { result ≡ Status.NotEmpty → AppendsOrFails (K.faults sink.old) (K.faults sink.new)
-        (K.contents sink.old) (K.contents sink.new) (not_empty_text size) }
+/// Tells where the device is refused. Where there is no memory for the line, that ends the run.
+fn refuse<K: Sink>(sink: &mut K, place: u64, text: &mut Vec<u8>) -> Status
+    ensures status { (result ≡ Status.NotFormed) ⊎ (result ≡ Status.NoMemory) }
+    ensures told { result ≡ Status.NotFormed → AppendsOrFails (K.faults sink.old) (K.faults sink.new)
+        (K.contents sink.old) (K.contents sink.new) (not_formed_text place) }
     ensures silent { result ≡ Status.NoMemory → sink.new ≡ sink.old }
     ensures later { K.faults sink.old ≤ K.faults sink.new }
 {
     text.clear();
-    let Ok(()) = not_empty_line(size, text) else {
+    let Ok(()) = not_formed_line(place, text) else {
         return Status::NoMemory;
     };
     match sink.write(text) {
-        Ok(()) => Status::NotEmpty,
-        Err(_) => Status::NotEmpty,
+        Ok(()) => Status::NotFormed,
+        Err(_) => Status::NotFormed,
+    }
+}
+
+/// How a run ends whose device was not opened.
+fn unopened(alloc: Global, status: Status) -> Outcome
+    ensures status { result.status ≡ status }
+    ensures marks { result.marks.items ≡ [] }
+{
+    Outcome {
+        status,
+        marks: Vec::new(alloc),
+    }
+}
+
+/// Answers the script on an open device, and closes it.
+fn serve_opened<S: Source, K: Sink, D: Disk>(
+    alloc: Global,
+    source: &mut S,
+    sink: &mut K,
+    disk: &mut D,
+    engine: Engine,
+    script: &mut Script,
+) -> Outcome
+    requires extent { D.extent disk.old ≡ device_size }
+    requires fresh { script.old.taken ≡ 0 }
+    ensures ends { (device : D) → Opened D.Disk device disk.old engine → EndsServed D.Disk result.status
+        (record { device = device; input = S.remaining source.old; held = K.contents sink.old })
+        (S.remaining source.new) (K.contents sink.new) disk.new result.marks.items }
+    ensures read { result.status ≡ Status.ReadFault → Rose (S.faults source.old) (S.faults source.new) }
+    ensures write { result.status ≡ Status.WriteFault → Rose (K.faults sink.old) (K.faults sink.new) }
+    ensures device { result.status ≡ Status.DeviceFault → Rose (D.faults disk.old) (D.faults disk.new) }
+    ensures at_once { D.faults disk.old < D.faults disk.new → result.status ≡ Status.DeviceFault }
+    ensures last { result.status ≡ Status.DeviceFault → D.failed_at disk.new ≡ D.moment disk.new }
+    ensures later { K.faults sink.old ≤ K.faults sink.new }
+{
+    let mut engine = engine;
+    match greet(sink, engine.number, &mut script.text) {
+        Ok(()) => {}
+        Err(status) => return engine.ended(status),
+    }
+    match answer_all(alloc, source, sink, disk, &mut engine, script) {
+        Ok(()) => close(alloc, sink, disk, engine, &mut script.text),
+        Err(status) => engine.ended(status),
     }
 }
 
@@ -56,39 +102,38 @@ fn serve<S: Source, K: Sink, D: Disk>(
     source: &mut S,
     sink: &mut K,
     disk: &mut D,
-) -> Status
-    ensures ends { EndsTold D.Disk result
+) -> Outcome
+    ensures ends { EndsTold D.Disk result.status
         (record { device = disk.old; input = S.remaining source.old; held = K.contents sink.old })
-        (S.remaining source.new) (K.contents sink.new) (K.faults sink.old) (K.faults sink.new) disk.new }
-    ensures read { result ≡ Status.ReadFault → Rose (S.faults source.old) (S.faults source.new) }
-    ensures write { result ≡ Status.WriteFault → Rose (K.faults sink.old) (K.faults sink.new) }
-    ensures device { result ≡ Status.DeviceFault → Rose (D.faults disk.old) (D.faults disk.new) }
-    ensures at_once { D.faults disk.old < D.faults disk.new → result ≡ Status.DeviceFault }
-    ensures last { result ≡ Status.DeviceFault → D.failed_at disk.new ≡ D.moment disk.new }
-    ensures kept { WasEmptyOrStays D.Disk disk.old disk.new }
+        (S.remaining source.new) (K.contents sink.new) (K.faults sink.old) (K.faults sink.new) disk.new result.marks.items }
+    ensures read { result.status ≡ Status.ReadFault → Rose (S.faults source.old) (S.faults source.new) }
+    ensures write { result.status ≡ Status.WriteFault → Rose (K.faults sink.old) (K.faults sink.new) }
+    ensures device { result.status ≡ Status.DeviceFault → Rose (D.faults disk.old) (D.faults disk.new) }
+    ensures at_once { D.faults disk.old < D.faults disk.new → result.status ≡ Status.DeviceFault }
+    ensures last { result.status ≡ Status.DeviceFault → D.failed_at disk.new ≡ D.moment disk.new }
     ensures later { K.faults sink.old ≤ K.faults sink.new }
 {
     let Ok(mut script) = Script::new(alloc) else {
-        return Status::NoMemory;
+        return unopened(alloc, Status::NoMemory);
     };
-    let mut engine = match open(alloc, disk) {
-        Ok(engine) => engine,
-        Err(OpenFault::NotEmpty(size)) => return refuse(sink, size, &mut script.text),
-        Err(OpenFault::Device) => return Status::DeviceFault,
-        Err(OpenFault::NoMemory) => return Status::NoMemory,
-    };
-    match greet(sink, engine.number, &mut script.text) {
-        Ok(()) => {}
-        Err(status) => return status,
+    match open(alloc, disk) {
+        Ok(engine) => serve_opened(alloc, source, sink, disk, engine, &mut script),
+        Err(OpenFault::NotFormed(place)) => unopened(alloc, refuse(sink, place, &mut script.text)),
+        Err(OpenFault::Device) => unopened(alloc, Status::DeviceFault),
+        Err(OpenFault::NoMemory) => unopened(alloc, Status::NoMemory),
     }
-    answer_all(alloc, source, sink, disk, &mut engine, &mut script)
 }
 
-/// Runs a script on a device that is empty: opens it, answers each line, and closes it at the end of the input.
+/// Runs a script on a device: opens it, answers each line, and closes it at the end of the input.
 ///
-/// The lines written are `opened 1`, a reply for each line that is not silent, and `closed N`; a run that ends early
-/// writes its status's line at last. A device that holds something is left alone. Where the device fails the run
-/// ends at once.
+/// An empty device is formatted, and another one goes on from what it stores. The lines written are `opened N`, a
+/// reply for each line that is not silent, and `closed N`; a run that ends early writes its status's line at last.
+/// A device that is not formed is refused at the first field that the format refuses, and left as it was. Where the
+/// device fails the run ends at once.
+///
+/// The outcome has a mark of the opening, of each sync that was answered by a number, and of the closing, in this
+/// order: whenever the device stops since the mark's moment, it stores the state after a prefix of the history that
+/// holds all up to the mark's number.
 pub fn run_script<S: Source, K: Sink, D: Disk>(
     alloc: Global,
     source: &mut S,
@@ -98,7 +143,7 @@ pub fn run_script<S: Source, K: Sink, D: Disk>(
     // By its status: what was taken and written, as a run of the machine gives it, and what the device holds.
     ensures ends { Ends D.Disk result.status
         (record { device = disk.old; input = S.remaining source.old; held = K.contents sink.old })
-        (S.remaining source.new) (K.contents sink.new) (K.faults sink.old) (K.faults sink.new) disk.new }
+        (S.remaining source.new) (K.contents sink.new) (K.faults sink.old) (K.faults sink.new) disk.new result.marks.items }
 
     // A fault is told only where the count of its object rose.
     ensures read { result.status ≡ Status.ReadFault → Rose (S.faults source.old) (S.faults source.new) }
@@ -108,24 +153,21 @@ pub fn run_script<S: Source, K: Sink, D: Disk>(
     ensures at_once { D.faults disk.old < D.faults disk.new → result.status ≡ Status.DeviceFault }
     ensures last { result.status ≡ Status.DeviceFault → D.failed_at disk.new ≡ D.moment disk.new }
 
-    // Where no count rose, lines within their limits on an empty device are run to their end, or memory is refused.
-    ensures complete { D.tells → D.seen disk.old ≡ [] → IsGoodInput (S.remaining source.old)
+    // Where no count rose, lines within their limits on an empty or formed device are run to their end, or memory is
+    // refused.
+    ensures complete { D.tells → IsGoodImage (D.seen disk.old) → IsGoodInput (S.remaining source.old)
         → ¬ Rose (S.faults source.old) (S.faults source.new) → ¬ Rose (K.faults sink.old) (K.faults sink.new)
         → ¬ Rose (D.faults disk.old) (D.faults disk.new)
         → (result.status ≡ Status.Done) ⊎ (result.status ≡ Status.NoMemory) }
 
-    // A device that held something stays as it was, under every status.
-    ensures kept { WasEmptyOrStays D.Disk disk.old disk.new }
-    ensures marks { result.marks.items ≡ [] }
+    // Without a mark a device that held something stays as it was.
+    ensures kept { result.marks.items ≡ [] → WasEmptyOrStays D.Disk disk.old disk.new }
 {
-    let status = serve(alloc, source, sink, disk);
-    match status {
+    let outcome = serve(alloc, source, sink, disk);
+    match outcome.status {
         // These have written all that they tell.
-        Status::Done | Status::NotEmpty | Status::WriteFault => {}
-        _ => tell(sink, status),
+        Status::Done | Status::NotFormed | Status::WriteFault => {}
+        status => tell(sink, status),
     }
-    Outcome {
-        status,
-        marks: Vec::new(alloc),
-    }
+    outcome
 }

@@ -1,15 +1,14 @@
 //! A script, line by line.
-ghost use Rattle.std.specs.Prelude.{◌≡◌, ◌+◌, ◌^◌, ◌<◌, ◌≤◌, [], Some, Ok, IfSome, IfErr, IsErrOf, length};
+ghost use Rattle.std.specs.Prelude.{◌≡◌, ◌+◌, ◌^◌, ◌<◌, ◌≤◌, [], Some, Ok, IfSome, OnOk, IfErr, IsErrOf, length};
 ghost use Rattle.hse_io.specs.Faults.{Rose};
 ghost use Rattle.hse_io.specs.declared.source.Got.{Got};
 ghost use Rattle.hse_shell.specs.Machine.{Machine};
 ghost use Rattle.hse_shell.specs.Logged.{Serves};
 ghost use Rattle.hse_shell.specs.Stored.{device_size};
 ghost use Rattle.hse_shell.specs.SoFar.{Start, SoFar};
-ghost use Rattle.hse_shell.specs.Ends.{Stops, EndsServed};
+ghost use Rattle.hse_shell.specs.Ends.{Stops};
 
 use crate::answering::answer;
-use crate::closing::close;
 use crate::engine::Engine;
 use hse_io::{Got, Line, LineFault, NoMemory, Sink, Source, Status};
 use media_disk::Disk;
@@ -64,7 +63,7 @@ fn advance<S: Source, K: Sink, D: Disk>(
         × IfSome start.input (λ all. S.remaining source.new ≡ Some []) }
     ensures stops { IfErr result (λ ended. (start : Start D)
         → SoFar D.Disk start (S.remaining source.old) (K.contents sink.old) disk.old engine.old script.old.taken
-        → Stops D.Disk ended start (S.remaining source.new) (K.contents sink.new)) }
+        → Stops D.Disk ended start (S.remaining source.new) (K.contents sink.new) disk.new engine.new.marks.items) }
     ensures read { IsErrOf result Status.ReadFault → Rose (S.faults source.old) (S.faults source.new) }
     ensures write { IsErrOf result Status.WriteFault → Rose (K.faults sink.old) (K.faults sink.new) }
     ensures device { IsErrOf result Status.DeviceFault → Rose (D.faults disk.old) (D.faults disk.new) }
@@ -95,7 +94,7 @@ fn advance<S: Source, K: Sink, D: Disk>(
     Ok(Got::Text)
 }
 
-/// Answers line after line until the input or the run ends.
+/// Answers line after line to the end of the input. An `Err` is why the run ends early.
 pub(crate) fn answer_all<S: Source, K: Sink, D: Disk>(
     alloc: Global,
     source: &mut S,
@@ -103,23 +102,29 @@ pub(crate) fn answer_all<S: Source, K: Sink, D: Disk>(
     disk: &mut D,
     engine: &mut Engine,
     script: &mut Script,
-) -> Status
+) -> Result<(), Status>
     requires { D.extent disk.old ≡ device_size }
-    ensures ends { (start : Start D)
+    ensures ended { OnOk result ((start : Start D)
         → SoFar D.Disk start (S.remaining source.old) (K.contents sink.old) disk.old engine.old script.old.taken
-        → EndsServed D.Disk result start (S.remaining source.new) (K.contents sink.new) disk.new }
-    ensures read { result ≡ Status.ReadFault → Rose (S.faults source.old) (S.faults source.new) }
-    ensures write { result ≡ Status.WriteFault → Rose (K.faults sink.old) (K.faults sink.new) }
-    ensures device { result ≡ Status.DeviceFault → Rose (D.faults disk.old) (D.faults disk.new) }
-    ensures at_once { D.faults disk.old < D.faults disk.new → result ≡ Status.DeviceFault }
-    ensures last { result ≡ Status.DeviceFault → D.failed_at disk.new ≡ D.moment disk.new }
-    ensures later { K.faults sink.old ≤ K.faults sink.new }
+        → SoFar D.Disk start (S.remaining source.new) (K.contents sink.new) disk.new engine.new script.new.taken
+        × IfSome start.input (λ all. S.remaining source.new ≡ Some [])) }
+    ensures stops { IfErr result (λ ended. (start : Start D)
+        → SoFar D.Disk start (S.remaining source.old) (K.contents sink.old) disk.old engine.old script.old.taken
+        → Stops D.Disk ended start (S.remaining source.new) (K.contents sink.new) disk.new engine.new.marks.items) }
+    ensures read { IsErrOf result Status.ReadFault → Rose (S.faults source.old) (S.faults source.new) }
+    ensures write { IsErrOf result Status.WriteFault → Rose (K.faults sink.old) (K.faults sink.new) }
+    ensures device { IsErrOf result Status.DeviceFault → Rose (D.faults disk.old) (D.faults disk.new) }
+    ensures at_once { D.faults disk.old < D.faults disk.new → IsErrOf result Status.DeviceFault }
+    ensures last { IsErrOf result Status.DeviceFault → D.failed_at disk.new ≡ D.moment disk.new }
+    ensures later { (S.faults source.old ≤ S.faults source.new) × (K.faults sink.old ≤ K.faults sink.new)
+        × (D.faults disk.old ≤ D.faults disk.new) }
+    ensures extent { D.extent disk.new ≡ D.extent disk.old }
 {
     'lines: loop {
         match advance(alloc, source, sink, disk, engine, script) {
             Ok(Got::Text) => {}
-            Ok(Got::Ended) => return close(alloc, sink, disk, engine, &mut script.text),
-            Err(status) => return status,
+            Ok(Got::Ended) => return Ok(()),
+            Err(status) => return Err(status),
         }
     }
 }

@@ -1,7 +1,7 @@
 //! What no clause says: the bytes and texts of examples from outside.
 use crate::command::{Command, parse};
 use crate::entry::{charge_of_del, charge_of_put, push_del, push_put};
-use crate::reply::{Reply, closed_line, not_empty_line, opened_line, print};
+use crate::reply::{Reply, closed_line, not_formed_line, opened_line, print};
 use crate::rows::Rows;
 use std::alloc::Global;
 use std::process::Abort;
@@ -58,8 +58,8 @@ fn a_run_begins_and_ends_with_a_line(rt: HostRuntime) -> Result<(), Fail> {
     let mut text = Vec::new(rt.alloc());
     opened_line(7, &mut text)?;
     closed_line(8, &mut text)?;
-    not_empty_line(4096, &mut text)?;
-    let lines = b"opened 7\nclosed 8\nfault not-empty 4096\n";
+    not_formed_line(4096, &mut text)?;
+    let lines = b"opened 7\nclosed 8\nfault not-formed log-1 4096\n";
     assert_eq!(rt; text.as_slice(), lines.as_slice());
     Ok(())
 }

@@ -1,13 +1,14 @@
 //! One line of a script.
-ghost use Rattle.std.specs.Prelude.{◌≡◌, ◌≢◌, ◌^◌, ◌<◌, ◌≤◌, ◌++◌, length, OnOk, IsOk, IsErrOf};
+ghost use Rattle.std.specs.Prelude.{◌≡◌, ◌≢◌, ◌^◌, ◌<◌, ◌≤◌, ◌++◌, ℕ, length, OnOk, IfOk, IfErr, IsOk, IsErrOf};
 ghost use Rattle.hse_io.specs.Faults.{Rose};
-ghost use Rattle.hse_shell.specs.Grammar.{Means, IsSilent, puts, dels, gets, syncs};
+ghost use Rattle.hse_shell.specs.Grammar.{Means, puts, dels, gets, syncs};
 ghost use Rattle.hse_shell.specs.Replies.{answer_line, bad_line};
 ghost use Rattle.hse_shell.specs.Machine.{Machine};
+ghost use Rattle.hse_shell.specs.Marks.{Marked};
 ghost use Rattle.hse_shell.specs.Stands.{Stands};
 ghost use Rattle.hse_shell.specs.Logged.{Serves};
 ghost use Rattle.hse_shell.specs.Stored.{device_size};
-ghost use Rattle.hse_shell.specs.Turns.{Said, Synced, Turned};
+ghost use Rattle.hse_shell.specs.Turns.{Said, SyncTurns, Turns};
 
 use crate::command::{Command, parse};
 use crate::engine::Engine;
@@ -35,9 +36,10 @@ fn stop_of(printed: Result<(), NoMemory>) -> Result<(), Stop>
 }
 
 fn put_line(engine: &mut Engine, key: &[u8], value: &[u8], text: &mut Vec<u8>) -> Result<(), Stop>
-    requires { length value.now < 2 ^ 32 }
-    ensures said { OnOk result ((m : Machine) → Stands engine.old m
-        → Said m (puts key.now value.now) engine.old engine.new text.old.items text.new.items) }
+    requires some { 1 ≤ length key.now }
+    requires short { length value.now < 2 ^ 32 }
+    ensures said { (m : Machine) → Stands engine.old m
+        → Said m (puts key.now value.now) engine.old engine.new text.old.items text.new.items result }
     ensures no_device { IsErrOf result Stop.Device → ⊥ }
 {
     let reply = engine.put(key, value);
@@ -45,8 +47,9 @@ fn put_line(engine: &mut Engine, key: &[u8], value: &[u8], text: &mut Vec<u8>) -
 }
 
 fn del_line(engine: &mut Engine, key: &[u8], text: &mut Vec<u8>) -> Result<(), Stop>
-    ensures said { OnOk result ((m : Machine) → Stands engine.old m
-        → Said m (dels key.now) engine.old engine.new text.old.items text.new.items) }
+    requires { 1 ≤ length key.now }
+    ensures said { (m : Machine) → Stands engine.old m
+        → Said m (dels key.now) engine.old engine.new text.old.items text.new.items result }
     ensures no_device { IsErrOf result Stop.Device → ⊥ }
 {
     let reply = engine.del(key);
@@ -54,8 +57,8 @@ fn del_line(engine: &mut Engine, key: &[u8], text: &mut Vec<u8>) -> Result<(), S
 }
 
 fn get_line(engine: &Engine, key: &[u8], text: &mut Vec<u8>) -> Result<(), Stop>
-    ensures said { OnOk result ((m : Machine) → Stands engine.now m
-        → Said m (gets key.now) engine.now engine.now text.old.items text.new.items) }
+    ensures said { (m : Machine) → Stands engine.now m
+        → Said m (gets key.now) engine.now engine.now text.old.items text.new.items result }
     ensures no_device { IsErrOf result Stop.Device → ⊥ }
 {
     let reply = engine.get(key);
@@ -76,10 +79,9 @@ fn sync_line<D: Disk>(
     text: &mut Vec<u8>,
 ) -> Result<(), Stop>
     requires { D.extent disk.old ≡ device_size }
-    ensures said { OnOk result ((m : Machine) → Serves D.Disk disk.old engine.old m
-        → Synced D.Disk m text.old.items text.new.items disk.new engine.new) }
+    ensures turns { (m : Machine) → Serves D.Disk disk.old engine.old m
+        → SyncTurns D.Disk m text.old.items text.new.items disk.new engine.new result }
     ensures device { IsErrOf result Stop.Device → Rose (D.faults disk.old) (D.faults disk.new) }
-    ensures asked { IsErrOf result Stop.Device → engine.old.count ≢ 0 }
     ensures at_once { D.faults disk.old < D.faults disk.new → IsErrOf result Stop.Device }
     ensures last { IsErrOf result Stop.Device → D.failed_at disk.new ≡ D.moment disk.new }
     ensures later { D.faults disk.old ≤ D.faults disk.new }
@@ -101,15 +103,12 @@ pub(crate) fn turn<D: Disk>(
 ) -> Result<(), Stop>
     requires extent { D.extent disk.old ≡ device_size }
     requires short { length line.now < 2 ^ 32 }
-    ensures turned { OnOk result ((m : Machine) → Serves D.Disk disk.old engine.old m
-        → Turned D.Disk m line.now text.old.items text.new.items disk.new engine.new) }
-    ensures device { IsErrOf result Stop.Device → Rose (D.faults disk.old) (D.faults disk.new) }
     // The device is asked in a sync alone, and only where commits wait.
-    ensures sync { IsErrOf result Stop.Device → Means line.now syncs }
-    ensures asked { IsErrOf result Stop.Device → engine.old.count ≢ 0 }
+    ensures turns { (m : Machine) → Serves D.Disk disk.old engine.old m
+        → Turns D.Disk m line.now text.old.items text.new.items disk.new engine.new result }
+    ensures device { IsErrOf result Stop.Device → Rose (D.faults disk.old) (D.faults disk.new) }
     ensures at_once { D.faults disk.old < D.faults disk.new → IsErrOf result Stop.Device }
     ensures last { IsErrOf result Stop.Device → D.failed_at disk.new ≡ D.moment disk.new }
-    ensures spoken { IsErrOf result Stop.NoMemory → IsSilent line.now → ⊥ }
     ensures later { D.faults disk.old ≤ D.faults disk.new }
     ensures extent { D.extent disk.new ≡ D.extent disk.old }
 {

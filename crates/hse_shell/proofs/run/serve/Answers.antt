@@ -1,49 +1,39 @@
-use Rattle.std.proofs.Common.{refl, ◌≡◌, ℕ, [], ap, sym, subst}
+use Rattle.std.proofs.Common.{ℕ, [], ap, refl, subst, sym, inr}
 use Rattle.std.specs.Prelude.{Err}
 use Rattle.std.specs.Io.KnownBytes.{Appends}
+use Rattle.hse_io.specs.declared.outcome.Status.{Status}
 use Rattle.hse_shell.specs.Ending.{AppendsOrFails}
-use Rattle.hse_shell.specs.Ends.{Greets}
-use Rattle.hse_shell.specs.Replies.{not_empty_text}
-use Rattle.hse_shell.specs.SoFar.{Start, SoFar}
-use Rattle.hse_shell.proofs.RunLemmas.{Appends-none, so_far_opened}
-use Rattle.hse_shell.proofs.StopLemmas.{ends_refused, ends_served, ends_stopped, stops_greeting}
+use Rattle.hse_shell.specs.Ends.{EndsTold}
+use Rattle.hse_shell.specs.Replies.{not_formed_text}
+use Rattle.hse_shell.specs.SoFar.{Start}
+use Rattle.hse_shell.proofs.RunLemmas.{Appends-none}
+use Rattle.hse_shell.proofs.StopLemmas.{ends_refused}
 use Rattle.hse_shell.proofs.run.serve.Goals as goal
 
-pub returns-in-Err-NotEmpty-clause-ends : goal.returns-in-Err-NotEmpty-clause-ends
-returns-in-Err-NotEmpty-clause-ends g c =
+pub returns-in-Err-NotFormed-clause-ends : goal.returns-in-Err-NotFormed-clause-ends
+returns-in-Err-NotFormed-clause-ends g c =
     let start : Start g.row.D.Denot = record { device = c.args.disk.now; input = g.S.Source.remaining c.args.source.now; held = g.K.Sink.contents c.args.sink.now } in
-    let full = c.in-Err-NotEmpty.ensures.not_empty c.in-Err-NotEmpty.size (ap Err c.in-Err-NotEmpty.field-0-is) in
-    ends_refused g.D.Disk c.refuse.result start (g.S.Source.remaining c.args.source.now) (g.K.Sink.contents c.refuse.new.sink)
-    (g.K.Sink.faults c.args.sink.now) (g.K.Sink.faults c.refuse.new.sink) c.open.new.disk c.refuse.ensures.status refl
+    let left = g.S.Source.remaining c.args.source.now in
+    let after = g.K.Sink.contents c.refuse.new.sink in
+    let faults = g.K.Sink.faults c.args.sink.now in
+    let now = g.K.Sink.faults c.refuse.new.sink in
+    let marks = c.unopened-in-Err-NotFormed.result.marks.items in
+    let refused = c.in-Err-NotFormed.ensures.refused c.in-Err-NotFormed.place (ap Err c.in-Err-NotFormed.field-0-is) in
+    subst (λ (ended : Status). EndsTold g.D.Disk ended start left after faults now c.open.new.disk marks) (sym c.unopened-in-Err-NotFormed.ensures.status)
+    (ends_refused g.D.Disk c.refuse.result start left after faults now c.open.new.disk marks c.refuse.ensures.status
     (λ is. record {
-      size = c.in-Err-NotEmpty.size;
-      some = full.0;
+      place = c.in-Err-NotFormed.place;
+      refused = λ told. (refused told).0;
       unread = refl;
-      untouched = full.1;
-      told = subst (λ (size : ℕ). AppendsOrFails (g.K.Sink.faults c.args.sink.now) (g.K.Sink.faults c.refuse.new.sink) (g.K.Sink.contents c.args.sink.now) (g.K.Sink.contents c.refuse.new.sink) (not_empty_text size))
-          c.in-Err-NotEmpty.size-is (c.refuse.ensures.told is);
+      unmarked = c.unopened-in-Err-NotFormed.ensures.marks;
+      stays = λ told. (refused told).1;
+      told = subst (λ (place : ℕ). AppendsOrFails faults now (g.K.Sink.contents c.args.sink.now) after (not_formed_text place))
+          c.in-Err-NotFormed.place-is (c.refuse.ensures.told is);
     })
-    (λ is. subst (λ sink. Appends (g.K.Sink.contents c.args.sink.now) (g.K.Sink.contents sink) []) (sym (c.refuse.ensures.silent is))
-    (Appends-none (g.K.Sink.contents c.args.sink.now)))
-
-pub returns-in-Err-clause-ends : goal.returns-in-Err-clause-ends
-returns-in-Err-clause-ends g c =
-    let start : Start g.row.D.Denot = record { device = c.args.disk.now; input = g.S.Source.remaining c.args.source.now; held = g.K.Sink.contents c.args.sink.now } in
-    let empty : g.D.Disk.tells → g.D.Disk.seen c.args.disk.now ≡ [] = c.in-Ok-open.ensures.empty in
-    let greets = subst (λ (number : ℕ). Greets c.in-Err.status number (g.K.Sink.contents c.args.sink.now) (g.K.Sink.contents c.greet.new.sink))
-    c.in-Ok-open.ensures.serves.stands.number c.in-Err.ensures.stops in
-    ends_served g.D.Disk c.in-Err.status start (g.S.Source.remaining c.args.source.now) (g.K.Sink.contents c.greet.new.sink)
-    (g.K.Sink.faults c.args.sink.now) (g.K.Sink.faults c.greet.new.sink) c.open.new.disk
-    (ends_stopped g.D.Disk c.in-Err.status start (g.S.Source.remaining c.args.source.now) (g.K.Sink.contents c.greet.new.sink) c.open.new.disk
-    (stops_greeting g.D.Disk c.in-Err.status start (g.K.Sink.contents c.greet.new.sink) empty greets))
-
-pub returns-clause-ends : goal.returns-clause-ends
-returns-clause-ends g c =
-    let start : Start g.row.D.Denot = record { device = c.args.disk.now; input = g.S.Source.remaining c.args.source.now; held = g.K.Sink.contents c.args.sink.now } in
-    let empty : g.D.Disk.tells → g.D.Disk.seen c.args.disk.now ≡ [] = c.in-Ok-open.ensures.empty in
-    let serves = c.in-Ok-open.ensures.serves in
-    let opened = so_far_opened g.D.Disk start empty (g.K.Sink.contents c.greet.new.sink) c.open.new.disk c.in-Ok-open.engine serves
-    c.in-Ok-open.engine.number serves.stands.number c.in-Ok-greet.ensures.greeted in
-    ends_served g.D.Disk c.answer_all.result start (g.S.Source.remaining c.answer_all.new.source) (g.K.Sink.contents c.answer_all.new.sink)
-    (g.K.Sink.faults c.args.sink.now) (g.K.Sink.faults c.answer_all.new.sink) c.answer_all.new.disk
-    (c.answer_all.ensures.ends start (subst (SoFar g.D.Disk start (g.S.Source.remaining c.args.source.now) (g.K.Sink.contents c.greet.new.sink) c.open.new.disk c.in-Ok-open.engine) (sym c.in-Ok.ensures) opened))
+    (λ is. record {
+      unread = refl;
+      silent = subst (λ sink. Appends (g.K.Sink.contents c.args.sink.now) (g.K.Sink.contents sink) []) (sym (c.refuse.ensures.silent is))
+          (Appends-none (g.K.Sink.contents c.args.sink.now));
+      unmarked = c.unopened-in-Err-NotFormed.ensures.marks;
+      stays = λ told. inr (refused told).1;
+    }))

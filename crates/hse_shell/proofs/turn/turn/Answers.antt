@@ -1,65 +1,54 @@
 use Rattle.std.proofs.Common.{refl, sym}
 use Rattle.std.proofs.lemmas.List.{append-nil}
-use Rattle.std.proofs.lemmas.Result.{on_ok_weaker}
-use Rattle.hse_shell.specs.Grammar.{puts, dels, gets, syncs, silent, unknown}
-use Rattle.hse_shell.specs.Replies.{bad_line, no_reply}
-use Rattle.hse_shell.proofs.GrammarLemmas.{not_silent}
-use Rattle.hse_shell.proofs.TurnLemmas.{serves_put, serves_del}
+use Rattle.hse_shell.specs.Grammar.{puts, dels, gets, silent}
+use Rattle.hse_shell.specs.Replies.{no_reply}
+use Rattle.hse_shell.proofs.TurnLemmas.{serves_put, serves_del, serves_get, said_turns, unknown_turns, sync_turns}
 use Rattle.hse_shell.proofs.turn.turn.Goals as goal
 
-pub returns-in-Put-clause-turned : goal.returns-in-Put-clause-turned
-returns-in-Put-clause-turned g c = on_ok_weaker c.put_line.result (λ said m s.
-    let line = said m s.stands in
-    record {
-      meaning = puts c.in-Put.key.now c.in-Put.value.now;
-      answer = line.answer;
-      means = c.in-Put.ensures.means;
-      turned = serves_put g.D.Disk c.args.disk.now c.args.engine.now c.put_line.new.engine m line.tail line.marks s
-          c.in-Put.key.now c.in-Put.value.now line.answer line.answers;
-      said = line.said;
-    }) c.put_line.ensures.said
+pub returns-in-Put-clause-turns : goal.returns-in-Put-clause-turns
+returns-in-Put-clause-turns g c m s =
+    let said = c.put_line.ensures.said m s.stands in
+    said_turns g.D.Disk m c.args.line.now c.args.text.now.items c.put_line.new.text.items c.args.disk.now c.put_line.new.engine
+    (puts c.in-Put.key.now c.in-Put.value.now) c.args.engine.now c.put_line.result (λ e. cc) c.in-Put.ensures.means
+    c.put_line.ensures.no_device said
+    (serves_put g.D.Disk c.args.disk.now c.args.engine.now c.put_line.new.engine m said.tail said.marks s
+    c.in-Put.key.now c.in-Put.value.now said.answer said.answers)
 
-pub returns-in-Unknown-clause-turned : goal.returns-in-Unknown-clause-turned
-returns-in-Unknown-clause-turned g c = on_ok_weaker c.unknown_line.result (λ said m s. record {
-  meaning = unknown;
-  answer = bad_line;
-  means = c.in-Unknown.ensures.means;
-  turned = record { step = (refl, refl); serves = s };
-  said = said;
-}) c.unknown_line.ensures.said
+pub returns-in-Del-clause-turns : goal.returns-in-Del-clause-turns
+returns-in-Del-clause-turns g c m s =
+    let said = c.del_line.ensures.said m s.stands in
+    said_turns g.D.Disk m c.args.line.now c.args.text.now.items c.del_line.new.text.items c.args.disk.now c.del_line.new.engine
+    (dels c.in-Del.key.now) c.args.engine.now c.del_line.result (λ e. cc) c.in-Del.ensures.means
+    c.del_line.ensures.no_device said
+    (serves_del g.D.Disk c.args.disk.now c.args.engine.now c.del_line.new.engine m said.tail said.marks s
+    c.in-Del.key.now said.answer said.answers)
 
-pub returns-in-Del-clause-turned : goal.returns-in-Del-clause-turned
-returns-in-Del-clause-turned g c = on_ok_weaker c.del_line.result (λ said m s.
-    let line = said m s.stands in
-    record {
-      meaning = dels c.in-Del.key.now;
-      answer = line.answer;
-      means = c.in-Del.ensures.means;
-      turned = serves_del g.D.Disk c.args.disk.now c.args.engine.now c.del_line.new.engine m line.tail line.marks s
-          c.in-Del.key.now line.answer line.answers;
-      said = line.said;
-    }) c.del_line.ensures.said
+pub returns-in-Get-clause-turns : goal.returns-in-Get-clause-turns
+returns-in-Get-clause-turns g c m s =
+    let said = c.get_line.ensures.said m s.stands in
+    said_turns g.D.Disk m c.args.line.now c.args.text.now.items c.get_line.new.text.items c.args.disk.now c.args.engine.now
+    (gets c.in-Get.key.now) c.args.engine.now c.get_line.result (λ e. cc) c.in-Get.ensures.means
+    c.get_line.ensures.no_device said
+    (serves_get g.D.Disk c.args.disk.now c.args.engine.now c.args.engine.now m said.tail said.marks s
+    c.in-Get.key.now said.answer said.answers)
 
-pub returns-in-Silent-clause-turned : goal.returns-in-Silent-clause-turned
-returns-in-Silent-clause-turned g c m s = record {
-  meaning = silent;
-  answer = no_reply;
-  means = c.in-Silent.ensures.means;
-  turned = record { step = refl; serves = s };
-  said = sym (append-nil c.args.text.now.items);
-}
+pub returns-in-Sync-clause-turns : goal.returns-in-Sync-clause-turns
+returns-in-Sync-clause-turns g c m s =
+    sync_turns g.D.Disk m c.args.line.now c.args.text.now.items c.sync_line.new.text.items c.sync_line.new.disk c.sync_line.new.engine
+    c.sync_line.result c.in-Sync.ensures.means (c.sync_line.ensures.turns m s)
 
-pub returns-in-Put-clause-spoken : goal.returns-in-Put-clause-spoken
-returns-in-Put-clause-spoken g c failed is = not_silent c.args.line.now (puts c.in-Put.key.now c.in-Put.value.now) (λ e. cc) c.in-Put.ensures.means is
+pub returns-in-Silent-clause-turns : goal.returns-in-Silent-clause-turns
+returns-in-Silent-clause-turns g c m s = (
+  record {
+    meaning = silent;
+    answer = no_reply;
+    means = c.in-Silent.ensures.means;
+    turned = record { step = refl; serves = s };
+  },
+  sym (append-nil c.args.text.now.items),
+)
 
-pub returns-in-Del-clause-spoken : goal.returns-in-Del-clause-spoken
-returns-in-Del-clause-spoken g c failed is = not_silent c.args.line.now (dels c.in-Del.key.now) (λ e. cc) c.in-Del.ensures.means is
-
-pub returns-in-Get-clause-spoken : goal.returns-in-Get-clause-spoken
-returns-in-Get-clause-spoken g c failed is = not_silent c.args.line.now (gets c.in-Get.key.now) (λ e. cc) c.in-Get.ensures.means is
-
-pub returns-in-Sync-clause-spoken : goal.returns-in-Sync-clause-spoken
-returns-in-Sync-clause-spoken g c failed is = not_silent c.args.line.now (syncs) (λ e. cc) c.in-Sync.ensures.means is
-
-pub returns-in-Unknown-clause-spoken : goal.returns-in-Unknown-clause-spoken
-returns-in-Unknown-clause-spoken g c failed is = not_silent c.args.line.now (unknown) (λ e. cc) c.in-Unknown.ensures.means is
+pub returns-in-Unknown-clause-turns : goal.returns-in-Unknown-clause-turns
+returns-in-Unknown-clause-turns g c m s =
+    unknown_turns g.D.Disk m c.args.line.now c.args.text.now.items c.unknown_line.new.text.items c.args.disk.now c.args.engine.now
+    c.unknown_line.result c.in-Unknown.ensures.means c.unknown_line.ensures.no_device c.unknown_line.ensures.said s

@@ -1,33 +1,27 @@
-use Rattle.std.proofs.Common.{List, [], ap, refl, subst, sym, ℕ, ◌++◌, ◌∙◌, ◌∷◌, ◌≡◌}
-use Rattle.std.specs.List.{AllByRecursion}
-use Rattle.hse_io.specs.declared.outcome.Mark.{Mark}
-use Rattle.hse_shell.specs.Machine.{all_synced}
-use Rattle.hse_shell.specs.Logged.{Serves, IsMark}
+use Rattle.std.proofs.Common.{ap, ◌∙◌, ◌++◌, ◌≡◌, ◌∷◌, [], ℕ, refl}
+use Rattle.std.specs.Prelude.{Err}
+use Rattle.hse_shell.specs.Machine.{flushed}
+use Rattle.hse_shell.specs.Marks.{mark_of}
+use Rattle.hse_shell.specs.Stands.{NotesOnly}
+use Rattle.hse_shell.specs.declared.engine.Engine.{Engine}
+use Rattle.hse_shell.proofs.LogLemmas.{serves_noted, serves_reserved}
 use Rattle.hse_shell.proofs.engine.Engine.sync.Goals as goal
+
+same : {old new : Engine} → new.rows ≡ old.rows → new.number ≡ old.number → new.charges ≡ old.charges → new.waiting ≡ old.waiting
+    → new.count ≡ old.count → new.tail ≡ old.tail → NotesOnly old new
+same rows number charges waiting count tail =
+    record { rows = rows; number = number; charges = charges; waiting = waiting; count = count; tail = tail }
 
 pub returns-clause-answers : goal.returns-clause-answers
 returns-clause-answers g c m s =
-    let after : Serves g.D.Disk c.flush.new.disk c.note.new.self (all_synced m) =
-    c.note.ensures.serves (all_synced m) refl (c.in-Ok-flush.ensures.synced m (record {
-      stands = record {
-        rows = s.stands.rows;
-        number = s.stands.number;
-        charges = s.stands.charges;
-        count = s.stands.count;
-        waiting = s.stands.waiting;
-        synced = s.stands.synced;
-      };
-      sized = s.sized;
-      logged = s.logged;
-      marks = λ told. subst (AllByRecursion (IsMark (g.D.Disk.could c.args.disk.now) (g.D.Disk.moment c.args.disk.now) m)) (sym c.reserve.ensures.items) (s.marks told);
-    })) in
+    let flushed_one = c.in-Ok-flush.ensures.synced m
+    (serves_reserved g.D.Disk c.args.disk.now c.args.self.now _ m (same refl refl refl refl refl refl) c.reserve.ensures.items s) in
+    let moment : c.note.new.self.marks.items ≡ c.flush.new.self.marks.items ++ mark_of c.flush.new.self.number (g.D.Disk.moment c.flush.new.disk) ∷ [] =
+    c.note.ensures.marks ∙ ap (λ (n : ℕ). c.flush.new.self.marks.items ++ mark_of c.flush.new.self.number n ∷ []) c.clock.ensures in
+    let after = serves_noted g.D.Disk g.met.D.Disk.only_now c.flush.new.disk c.flush.new.self (flushed m) refl flushed_one c.note.new.self c.note.ensures.kept moment in
     record { step = (after.stands.number, refl); serves = after }
 
-pub returns-clause-noted : goal.returns-clause-noted
-returns-clause-noted g c n is =
-    let same : c.flush.new.self.number ≡ n = cc (is, c.note.ensures.number) in
-    let mark = λ (number : ℕ). (let m : Mark = record { life = 0; number = number; moment = g.D.Disk.moment c.flush.new.disk } in m) in
-    let kept : c.flush.new.self.marks.items ≡ c.args.self.now.marks.items = ap (λ marks. marks.items) c.in-Ok-flush.ensures.marks ∙ c.reserve.ensures.items in
-    c.note.ensures.noted
-    ∙ ap (λ (items : List Mark). items ++ mark c.flush.new.self.number ∷ []) kept
-    ∙ ap (λ (number : ℕ). c.args.self.now.marks.items ++ mark number ∷ []) same
+pub returns-in-Err-Device-clause-marked : goal.returns-in-Err-Device-clause-marked
+returns-in-Err-Device-clause-marked g c m s =
+    c.in-Err-Device.ensures.marked (ap Err c.in-Err-Device.field-0-is) m
+    (serves_reserved g.D.Disk c.args.disk.now c.args.self.now _ m (same refl refl refl refl refl refl) c.reserve.ensures.items s)
