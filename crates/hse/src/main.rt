@@ -2,6 +2,10 @@
 #![tactic(auto)]
 
 #[cfg(test)]
+mod crash_tests;
+#[cfg(test)]
+mod opening_tests;
+#[cfg(test)]
 mod tests;
 mod top;
 

@@ -1,6 +1,6 @@
 //! Whole runs over a source, a sink and a device in memory.
 use crate::top::top;
-use hse_io::{Got, Line, LineFault, MemSink, MemSource, Source, Status};
+use hse_io::{Got, Line, LineFault, Mark, MemSink, MemSource, Source, Status};
 use media_disk::MemDisk;
 use std::alloc::{AllocError, Global};
 use std::process::Abort;
@@ -8,9 +8,10 @@ use std::test::Fail;
 
 /// What a run ended with, and what it wrote.
 #[derive(Drop)]
-struct Ran {
-    status: Status,
-    sink: MemSink,
+pub(crate) struct Ran {
+    pub(crate) status: Status,
+    pub(crate) marks: Vec<Mark>,
+    pub(crate) sink: MemSink,
 }
 
 fn words(alloc: Global, action: &str) -> Result<Vec<String>, AllocError> {
@@ -22,7 +23,7 @@ fn words(alloc: Global, action: &str) -> Result<Vec<String>, AllocError> {
 }
 
 /// Runs a script; the source and the sink fail at these calls.
-fn run(
+pub(crate) fn run(
     alloc: Global,
     script: &[u8],
     reads: Vec<u64>,
@@ -35,11 +36,12 @@ fn run(
     let outcome = top(alloc, &words, &mut source, &mut sink, disk);
     Ok(Ran {
         status: outcome.status,
+        marks: outcome.marks,
         sink,
     })
 }
 
-fn wrote(rt: &impl Abort, ran: &Ran, status: Status, lines: &[u8]) {
+pub(crate) fn wrote(rt: &impl Abort, ran: &Ran, status: Status, lines: &[u8]) {
     assert_eq!(rt; ran.sink.bytes(), lines);
     assert!(rt; ran.status == status);
     assert_eq!(rt; ran.sink.refused(), 0);
@@ -153,7 +155,7 @@ fn empty_lines_and_comments_have_no_reply(rt: HostRuntime) -> Result<(), Fail> {
 }
 
 /// A text that begins with this front and has so many bytes more.
-fn padded(alloc: Global, front: &[u8], more: usize) -> Result<Vec<u8>, AllocError> {
+pub(crate) fn padded(alloc: Global, front: &[u8], more: usize) -> Result<Vec<u8>, AllocError> {
     let mut text = Vec::new(alloc);
     text.resize(more, b'v')?;
     let mut line = front.to_vec(alloc)?;
@@ -230,28 +232,6 @@ fn other_words_are_usage_and_touch_no_device(rt: HostRuntime) -> Result<(), Fail
     assert!(rt; outcome.status == Status::Usage);
     assert_eq!(rt; sink.bytes(), b"fault usage\n".as_slice());
     assert!(rt; disk.calls().is_empty());
-    Ok(())
-}
-
-#[test]
-fn a_device_that_holds_something_is_left_alone(rt: HostRuntime) -> Result<(), Fail> {
-    let alloc = rt.alloc();
-    let mut disk = MemDisk::of(alloc, b"12345".as_slice().to_vec(alloc)?);
-    let ran = run(alloc, SCRIPT, Vec::new(alloc), Vec::new(alloc), &mut disk)?;
-    wrote(
-        &rt,
-        &ran,
-        Status::NotEmpty,
-        b"fault not-empty 5\n".as_slice(),
-    );
-    assert_eq!(rt; disk.bytes(), b"12345".as_slice());
-    let mut full = Vec::new(alloc);
-    full.resize(4_194_304, 7)?;
-    let mut disk = MemDisk::of(alloc, full);
-    let ran = run(alloc, SCRIPT, Vec::new(alloc), Vec::new(alloc), &mut disk)?;
-    let lines = b"fault not-empty 4194304\n";
-    wrote(&rt, &ran, Status::NotEmpty, lines.as_slice());
-    assert!(rt; disk.bytes().iter().all(|byte| *byte == 7));
     Ok(())
 }
 
