@@ -6,3 +6,4 @@ pub mod BatchesLoop
 pub mod LengthLemmas
 pub mod SoundLemmas
 pub mod TextLemmas
+pub mod PayloadLemmas

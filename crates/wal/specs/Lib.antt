@@ -10,4 +10,5 @@ pub mod Replaying
 pub mod Numbered
 pub mod NumberingLaws
 pub mod BatchLaws
+pub mod Writable
 pub mod Sound

@@ -1,5 +1,6 @@
 //! Laws of commits and segments. These functions do nothing; their contracts are the laws.
 ghost use Rattle.std.specs.Prelude.{◌≡◌, ◌+◌, ◌-◌, ◌^◌, ◌<◌, ◌≤◌, ◌++◌, ◌∷◌, [], ℕ, List, length, Ok};
+ghost use Rattle.std.specs.List.{All};
 ghost use Rattle.gate_log.specs.Gates.{IsShut};
 ghost use Rattle.gate_log.specs.declared.front.End.{End as an_end};
 ghost use Rattle.gate_log.specs.declared.front.End.TheVariants.{Closed};
@@ -15,6 +16,7 @@ ghost use Rattle.wal.specs.Logged.{entry_of, entries_of};
 ghost use Rattle.wal.specs.Numbered.{untaken, AreNumbered, IsRun};
 ghost use Rattle.wal.specs.Numbering.{Numbers, numbering};
 ghost use Rattle.wal.specs.Replaying.{segment_of, IsRefused, IsSegment};
+ghost use Rattle.wal.specs.Writable.{IsWritableCommit};
 ghost use Rattle.wal.specs.declared.commit.Commit.{Commit as a_commit};
 ghost use Rattle.wal.specs.declared.live.StorePrefix.{StorePrefix as a_prefix};
 ghost use Rattle.wal.specs.declared.segment.Segment.{Segment as a_segment};
@@ -23,6 +25,13 @@ ghost use Rattle.wal.specs.declared.segment.Segment.{Segment as a_segment};
 pub fn charge_is_length()
     ensures { (commit : a_commit)
         → charge_of commit.writes ≡ length (entry_text (entry_of commit)) + 32 }
+{}
+
+/// Commits whose writes are in the order of a normal form, and whose numbers, stores, names, values
+/// and counts are within their limits, are a payload: their text is read as these commits.
+pub fn commits_are_a_payload()
+    ensures { (most : ℕ) (commits : List a_commit) → 1 ≤ length commits → length commits < 2 ^ 32
+        → All (IsWritableCommit most) commits → ArePayload most (entries_of commits) }
 {}
 
 /// No segment has two readings: a region holds the commits of one segment, or is refused at one
