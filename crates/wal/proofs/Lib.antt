@@ -7,3 +7,4 @@ pub mod LengthLemmas
 pub mod SoundLemmas
 pub mod TextLemmas
 pub mod PayloadLemmas
+pub mod TakenLemmas

@@ -11,4 +11,5 @@ pub mod Numbered
 pub mod NumberingLaws
 pub mod BatchLaws
 pub mod Writable
+pub mod Taken
 pub mod Sound

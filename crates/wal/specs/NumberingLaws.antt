@@ -18,24 +18,24 @@ chosen_some true x y e = absurd cc
 chosen_some false x y e = (refl, cc)
 
 -- what is known after an entry
-abbrev known_after : Numbers → Entry → Numbers
+abbrev pub known_after : Numbers → Entry → Numbers
 known_after state e = record { next = e.number + 1; taken = taken_from state.next state.taken; room = state.room - charge e }
 
-record Came (state next : Numbers) (e : Entry) : Type 0 where
-  fits : charge e ≤ state.room
-  is : known_after state e ≡ next
+pub record Came (state next : Numbers) (e : Entry) : Type 0 where
+  pub fits : charge e ≤ state.room
+  pub is : known_after state e ≡ next
 
-came : (state next : Numbers) (e : Entry) → after state e ≡ Some next → Came state next e
+pub came : (state next : Numbers) (e : Entry) → after state e ≡ Some next → Came state next e
 came state next e h =
     let c = chosen_some (nat_lt state.room (charge e)) (known_after state e) next h in
     record { fits = ltb-false _ _ c.0; is = c.1 }
 
-comes : (state : Numbers) (e : Entry) → charge e ≤ state.room → after state e ≡ Some (known_after state e)
+pub comes : (state : Numbers) (e : Entry) → charge e ≤ state.room → after state e ≡ Some (known_after state e)
 comes state e fits =
     let test : nat_lt state.room (charge e) ≡ false = le-ltb _ _ fits in
     rw test refl
 
-number_is : (state : Numbers) (number : ℕ) → is_next state number ≡ true → number ≡ free_from state.next state.taken
+pub number_is : (state : Numbers) (number : ℕ) → is_next state number ≡ true → number ≡ free_from state.next state.taken
 number_is state number h = eqb-true number (free_from state.next state.taken) (and_parts (number == free_from state.next state.taken) (nat_le number last_number) h).0
 
 number_small : (state : Numbers) (number : ℕ) → is_next state number ≡ true → number ≤ last_number

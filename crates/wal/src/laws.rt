@@ -1,6 +1,7 @@
 //! Laws of commits and segments. These functions do nothing; their contracts are the laws.
 ghost use Rattle.std.specs.Prelude.{◌≡◌, ◌+◌, ◌-◌, ◌^◌, ◌<◌, ◌≤◌, ◌++◌, ◌∷◌, [], ℕ, List, length, Ok};
 ghost use Rattle.std.specs.List.{All};
+ghost use Rattle.std.specs.List.Sorted.{IsStrictlyIncreasing};
 ghost use Rattle.gate_log.specs.Gates.{IsShut};
 ghost use Rattle.gate_log.specs.declared.front.End.{End as an_end};
 ghost use Rattle.gate_log.specs.declared.front.End.TheVariants.{Closed};
@@ -16,6 +17,7 @@ ghost use Rattle.wal.specs.Logged.{entry_of, entries_of};
 ghost use Rattle.wal.specs.Numbered.{untaken, AreNumbered, IsRun};
 ghost use Rattle.wal.specs.Numbering.{Numbers, numbering};
 ghost use Rattle.wal.specs.Replaying.{segment_of, IsRefused, IsSegment};
+ghost use Rattle.wal.specs.Taken.{with_taken, FollowsNumbers};
 ghost use Rattle.wal.specs.Writable.{IsWritableCommit};
 ghost use Rattle.wal.specs.declared.commit.Commit.{Commit as a_commit};
 ghost use Rattle.wal.specs.declared.live.StorePrefix.{StorePrefix as a_prefix};
@@ -96,4 +98,12 @@ pub fn replayed_is_a_run()
         (end : an_end) (entries : List Entry) (last : Numbers)
         → segment_of live most (untaken next room) payloads end ≡ Ok (entries, last)
         → IsRun next room entries last }
+{}
+
+/// The commits that follow one another take of the room what they are charged, and their numbers
+/// rise strictly, from the least number that may come, past the numbers that are taken.
+pub fn entries_follow_the_numbers()
+    ensures { (live : List a_prefix) (state last : Numbers) (entries : List Entry)
+        → IsStrictlyIncreasing state.taken → Follow (numbering live) state entries last
+        → FollowsNumbers state entries last }
 {}

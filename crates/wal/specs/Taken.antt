@@ -1,0 +1,25 @@
+-- What the numbers of entries are that follow one another, where some numbers are taken.
+use Rattle.std.specs.Prelude.{◌≡◌, ◌≢◌, ℕ, ◌+◌, ◌<◌, ◌≤◌, List, ◌++◌, map}
+use Rattle.std.specs.List.{All}
+use Rattle.std.specs.List.Sorted.{IsStrictlyIncreasing}
+use Rattle.hse_fields.specs.LogText.{Entry}
+use Rattle.wal.specs.Charges.{charges}
+use Rattle.wal.specs.Numbering.{Numbers}
+
+-- the numbers of entries
+abbrev pub numbers_of : List Entry → List ℕ
+numbers_of entries = map (λ (e : Entry). e.number) entries
+
+-- more numbers are taken, behind those that are
+abbrev pub with_taken : Numbers → List ℕ → Numbers
+with_taken state more = record { next = state.next; taken = state.taken ++ more; room = state.room }
+
+-- The entries take of the room what they are charged, and their numbers rise strictly: from the least number that may come,
+-- past the taken ones, to below the next one.
+pub record FollowsNumbers (state : Numbers) (entries : List Entry) (last : Numbers) : Type 0 where
+  pub charged : charges entries + last.room ≡ state.room
+  pub rising : IsStrictlyIncreasing (numbers_of entries)
+  pub untaken : All (λ (number : ℕ). All (λ (t : ℕ). t ≢ number) state.taken) (numbers_of entries)
+  pub least : All (λ (number : ℕ). state.next ≤ number) (numbers_of entries)
+  pub below : All (λ (number : ℕ). number < last.next) (numbers_of entries)
+  pub grows : state.next ≤ last.next
