@@ -208,3 +208,52 @@ follows_numbers live state last es rising follow =
       below = All-from_recursion (λ (n : ℕ). n < last.next) ns r.below;
       grows = follow_grows live state last es follow;
     }
+
+-- ---- more taken numbers
+
+free_more : (next : ℕ) (ts more : List ℕ) → AllByRecursion (λ (t : ℕ). free_from next ts < t) more → free_from next (ts ++ more) ≡ free_from next ts
+free_more next [] [] above = refl
+free_more next [] (m ∷ ms) above = (is_above next m above.0).free ms
+free_more next (t ∷ ts) more above =
+    elim (place next t) [
+      | inl a ↦ a.free (ts ++ more) ∙ sym (a.free ts)
+      | inr p ↦
+      let behind = subst (λ (n : ℕ). AllByRecursion (λ (u : ℕ). n < u) more) (p.free ts) above in
+      p.free (ts ++ more) ∙ free_more p.from ts more behind ∙ sym (p.free ts)
+    ]
+
+taken_more : (next : ℕ) (ts more : List ℕ) → AllByRecursion (λ (t : ℕ). free_from next ts < t) more
+    → taken_from next (ts ++ more) ≡ taken_from next ts ++ more
+taken_more next [] [] above = refl
+taken_more next [] (m ∷ ms) above = (is_above next m above.0).taken ms
+taken_more next (t ∷ ts) more above =
+    elim (place next t) [
+      | inl a ↦ a.taken (ts ++ more) ∙ ap (λ (l : List ℕ). l ++ more) (sym (a.taken ts))
+      | inr p ↦
+      let behind = subst (λ (n : ℕ). AllByRecursion (λ (u : ℕ). n < u) more) (p.free ts) above in
+      p.taken (ts ++ more) ∙ taken_more p.from ts more behind ∙ ap (λ (l : List ℕ). l ++ more) (sym (p.taken ts))
+    ]
+
+all_above : (n high : ℕ) (more : List ℕ) → n < high → AreFrom high more → AllByRecursion (λ (t : ℕ). n < t) more
+all_above n high [] lt from = tt
+all_above n high (m ∷ ms) lt from = (through n high m lt from.0, all_above n high ms lt from.1)
+
+pub follow_more : (live : List StorePrefix) (state last : Numbers) (es : List Entry) (more : List ℕ) → AllByRecursion (λ (t : ℕ). last.next ≤ t) more
+    → Follow (numbering live) state es last → Follow (numbering live) (with_taken state more) es (with_taken last more)
+follow_more live state last [] more all follow = ap (λ (s : Numbers). with_taken s more) follow
+follow_more live state last (e ∷ es) more all follow =
+    let c = came state follow.1 e follow.2 in
+    let fits : charge e ≤ state.room = c.fits in
+    let number : e.number ≡ free_from state.next state.taken = number_is state e.number follow.0 in
+    let next : e.number + 1 ≡ follow.1.next = ap (λ (n : Numbers). n.next) c.is in
+    let grows : follow.1.next ≤ last.next = follow_grows live follow.1 last es follow.3 in
+    let behind : e.number < last.next = omega (arith, next, grows) in
+    let above = all_above (free_from state.next state.taken) last.next more (subst (λ (n : ℕ). n < last.next) number behind) all in
+    let first : is_next (with_taken state more) e.number ≡ true =
+    ap (λ (n : ℕ). (e.number == n) && nat_le e.number last_number) (free_more state.next state.taken more above) ∙ follow.0 in
+    let same : known_after (with_taken state more) e ≡ with_taken follow.1 more =
+    ap (λ (ts : List ℕ). record { next = e.number + 1; taken = ts; room = state.room - charge e }) (taken_more state.next state.taken more above)
+    ∙ ap (λ (s : Numbers). with_taken s more) c.is in
+    let comes_too : after (with_taken state more) e ≡ Some (with_taken follow.1 more) =
+    comes (with_taken state more) e fits ∙ ap (λ (s : Numbers). Some s) same in
+    (first, with_taken follow.1 more, comes_too, follow_more live follow.1 last es more all follow.3)

@@ -107,3 +107,11 @@ pub fn entries_follow_the_numbers()
         → IsStrictlyIncreasing state.taken → Follow (numbering live) state entries last
         → FollowsNumbers state entries last }
 {}
+
+/// The same commits follow one another where more numbers are taken, none of them below the number
+/// that may come next behind the commits.
+pub fn later_taken_numbers_change_nothing()
+    ensures { (live : List a_prefix) (state last : Numbers) (entries : List Entry) (more : List ℕ)
+        → Follow (numbering live) state entries last → All (λ (t : ℕ). last.next ≤ t) more
+        → Follow (numbering live) (with_taken state more) entries (with_taken last more) }
+{}

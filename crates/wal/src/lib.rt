@@ -22,7 +22,7 @@ pub use commit::Commit;
 pub use encode::encode_batch;
 pub use laws::{
     charge_is_length, commits_are_a_payload, encoded_is_replayed, entries_follow_the_numbers,
-    one_batch_more, one_replay, replayed_is_a_run,
+    later_taken_numbers_change_nothing, one_batch_more, one_replay, replayed_is_a_run,
 };
 pub use live::StorePrefix;
 pub use replay::segment_in;
