@@ -65,9 +65,9 @@ free_least next (t ∷ ts) =
     elim (place next t) [
       | inl a ↦ subst (λ (n : ℕ). next ≤ n) (sym (a.free ts)) (omega arith)
       | inr p ↦
-      let least : next ≤ p.from = p.least in
-      let more : p.from ≤ free_from p.from ts = free_least p.from ts in
-      subst (λ (n : ℕ). next ≤ n) (sym (p.free ts)) (omega (arith, least, more))
+          let least : next ≤ p.from = p.least in
+          let more : p.from ≤ free_from p.from ts = free_least p.from ts in
+          subst (λ (n : ℕ). next ≤ n) (sym (p.free ts)) (omega (arith, least, more))
     ]
 
 below_apart : (a b : ℕ) → a < b → a ≢ b
@@ -106,8 +106,8 @@ free_lacks next (t ∷ ts) rising =
     elim (place next t) [
       | inl a ↦ subst (λ (n : ℕ). Lacks n (t ∷ ts)) (sym (a.free ts)) (above_apart t next a.above, behind_lack next t ts a.above rising.0)
       | inr p ↦
-      subst (λ (n : ℕ). Lacks n (t ∷ ts)) (sym (p.free ts))
-      (below_apart t (free_from p.from ts) (through t p.from (free_from p.from ts) p.below (free_least p.from ts)), free_lacks p.from ts rising.1)
+          subst (λ (n : ℕ). Lacks n (t ∷ ts)) (sym (p.free ts))
+          (below_apart t (free_from p.from ts) (through t p.from (free_from p.from ts) p.below (free_least p.from ts)), free_lacks p.from ts rising.1)
     ]
 
 -- nor is a later number that is none of the taken ones behind it
@@ -117,9 +117,9 @@ later_lacks next (t ∷ ts) n lt lack =
     elim (place next t) [
       | inl a ↦ subst (Lacks n) (a.taken ts) lack
       | inr p ↦
-      let lower : free_from p.from ts < n = subst (λ (m : ℕ). m < n) (p.free ts) lt in
-      let first : t < free_from p.from ts = through t p.from (free_from p.from ts) p.below (free_least p.from ts) in
-      (below_apart t n (both_less t (free_from p.from ts) n first lower), later_lacks p.from ts n lower (subst (Lacks n) (p.taken ts) lack))
+          let lower : free_from p.from ts < n = subst (λ (m : ℕ). m < n) (p.free ts) lt in
+          let first : t < free_from p.from ts = through t p.from (free_from p.from ts) p.below (free_least p.from ts) in
+          (below_apart t n (both_less t (free_from p.from ts) n first lower), later_lacks p.from ts n lower (subst (Lacks n) (p.taken ts) lack))
     ]
 
 taken_rises : (next : ℕ) (ts : List ℕ) → IsStrictlySortedBy nat_cmp ts → IsStrictlySortedBy nat_cmp (taken_from next ts)
@@ -218,8 +218,8 @@ free_more next (t ∷ ts) more above =
     elim (place next t) [
       | inl a ↦ a.free (ts ++ more) ∙ sym (a.free ts)
       | inr p ↦
-      let behind = subst (λ (n : ℕ). AllByRecursion (λ (u : ℕ). n < u) more) (p.free ts) above in
-      p.free (ts ++ more) ∙ free_more p.from ts more behind ∙ sym (p.free ts)
+          let behind = subst (λ (n : ℕ). AllByRecursion (λ (u : ℕ). n < u) more) (p.free ts) above in
+          p.free (ts ++ more) ∙ free_more p.from ts more behind ∙ sym (p.free ts)
     ]
 
 taken_more : (next : ℕ) (ts more : List ℕ) → AllByRecursion (λ (t : ℕ). free_from next ts < t) more
@@ -230,8 +230,8 @@ taken_more next (t ∷ ts) more above =
     elim (place next t) [
       | inl a ↦ a.taken (ts ++ more) ∙ ap (λ (l : List ℕ). l ++ more) (sym (a.taken ts))
       | inr p ↦
-      let behind = subst (λ (n : ℕ). AllByRecursion (λ (u : ℕ). n < u) more) (p.free ts) above in
-      p.taken (ts ++ more) ∙ taken_more p.from ts more behind ∙ ap (λ (l : List ℕ). l ++ more) (sym (p.taken ts))
+          let behind = subst (λ (n : ℕ). AllByRecursion (λ (u : ℕ). n < u) more) (p.free ts) above in
+          p.taken (ts ++ more) ∙ taken_more p.from ts more behind ∙ ap (λ (l : List ℕ). l ++ more) (sym (p.taken ts))
     ]
 
 all_above : (n high : ℕ) (more : List ℕ) → n < high → AreFrom high more → AllByRecursion (λ (t : ℕ). n < t) more

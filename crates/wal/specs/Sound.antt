@@ -5,14 +5,17 @@ use Rattle.gate_log.specs.Places.{tail_of}
 use Rattle.gate_log.specs.Reading.{payloads_of}
 use Rattle.gate_log.specs.declared.front.End.TheVariants.{Closed}
 use Rattle.gate_log.specs.declared.front.Front.{Front}
+use Rattle.hse_fields.specs.LogReading.{Follow}
 use Rattle.wal.specs.Charges.{charges}
 use Rattle.wal.specs.Logged.{entries_of}
 use Rattle.wal.specs.Numbered.{AreNumbered}
-use Rattle.wal.specs.Numbering.{last_number}
+use Rattle.wal.specs.Numbering.{Numbers, last_number, numbering}
+use Rattle.wal.specs.Replaying.{starting}
 use Rattle.wal.specs.declared.commit.Commit.{Commit}
+use Rattle.wal.specs.declared.live.StorePrefix.{StorePrefix}
 use Rattle.wal.specs.declared.segment.Segment.{Segment}
 
-pub record IsSound (size first : ℕ) (taken : List ℕ) (front : Front) (segment : Segment) : Type 0 where
+pub record IsSound (size first : ℕ) (taken : List ℕ) (live : List StorePrefix) (front : Front) (segment : Segment) : Type 0 where
   pub sequence : segment.sequence ≡ front.sequence
   -- its gate stands behind the batches, inside the region
   pub closed : front.end ≡ Closed segment.tail
@@ -30,3 +33,7 @@ pub record IsSound (size first : ℕ) (taken : List ℕ) (front : Front) (segmen
   -- where no number is taken the commits are numbered one after another
   pub numbered : taken ≡ [] → AreNumbered first (entries_of segment.commits.items)
   pub consecutive : taken ≡ [] → segment.next ≡ first + length segment.commits.items
+  -- the commits follow one another, also where numbers are taken
+  pub last : Numbers
+  pub follows : Follow (numbering live) (starting first taken size) (entries_of segment.commits.items) last
+  pub next_is : segment.next ≡ last.next

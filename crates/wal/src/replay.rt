@@ -44,7 +44,7 @@ pub fn segment_in(
     // The place lies in the region, or at its end, whatever the device tells.
     ensures within { (place : ℕ) → IsErrOf result (SegmentFault.Damaged place) → place ≤ size }
     ensures device { IsErrOf result SegmentFault.Device → ⊥ }
-    ensures sound { IfOk result (IsSound size next taken.now front) }
+    ensures sound { IfOk result (IsSound size next taken.now live.now front) }
 {
     let room = size.saturating_sub(END);
     let expected = Expected { next, taken, room };

@@ -4,9 +4,9 @@ use Rattle.gate_log.specs.Reading.{payloads_of, Ends, LiesInside}
 use Rattle.gate_log.specs.declared.found.Payload.{Payload}
 use Rattle.gate_log.specs.declared.front.End.{End}
 use Rattle.gate_log.specs.declared.front.End.TheVariants.{Closed}
-use Rattle.hse_fields.specs.LogReading.{◌>>=◌}
+use Rattle.hse_fields.specs.LogReading.{◌>>=◌, Follow}
 use Rattle.wal.specs.Expected.{numbers_as}
-use Rattle.wal.specs.Numbering.{Numbers}
+use Rattle.wal.specs.Numbering.{Numbers, numbering}
 use Rattle.wal.specs.Replaying.{batches_of, ended}
 use Rattle.wal.specs.BatchLaws.{batches_follow}
 use Rattle.wal.specs.Logged.{entries_of}
@@ -49,4 +49,8 @@ returns-clause-sound c =
       small = k.small;
       numbered = k.numbered;
       consecutive = k.consecutive;
+      last = numbers_as c.in_ok-commits.last;
+      follows = subst (λ (room : ℕ). Follow (numbering c.args.live.now) (numbers_from c.args.next c.args.taken.now room)
+          (entries_of c.in_ok-commits.commits.items) (numbers_as c.in_ok-commits.last)) c.saturating_sub-room.ensures follow;
+      next_is = refl;
     }
