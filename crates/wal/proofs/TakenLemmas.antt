@@ -142,10 +142,10 @@ follow_grows live state last (e ∷ es) follow =
     omega (arith, number, next, free_least state.next state.taken, follow_grows live follow.1 last es follow.3)
 
 -- from this number on
-abbrev AreFrom : ℕ → List ℕ → Type 0
+abbrev pub AreFrom : ℕ → List ℕ → Type 0
 AreFrom least ns = AllByRecursion (λ (n : ℕ). least ≤ n) ns
 
-lower : (low high : ℕ) (ns : List ℕ) → low ≤ high → AreFrom high ns → AreFrom low ns
+pub lower : (low high : ℕ) (ns : List ℕ) → low ≤ high → AreFrom high ns → AreFrom low ns
 lower low high [] le from = tt
 lower low high (n ∷ ns) le from = (omega (arith, le, from.0), lower low high ns le from.1)
 

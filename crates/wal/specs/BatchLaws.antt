@@ -31,7 +31,7 @@ abbrev pub Reads : List StorePrefix → ℕ → Numbers → List (List ℕ) → 
 Reads live most state payloads read = (gate : ℕ) → batches_of live most state gate payloads ≡ Ok read
 
 -- a batch in front of others
-reads_first : (live : List StorePrefix) (most : ℕ) (state : Numbers) (payload : List ℕ) (payloads : List (List ℕ))
+pub reads_first : (live : List StorePrefix) (most : ℕ) (state : Numbers) (payload : List ℕ) (payloads : List (List ℕ))
     (first others : List Entry × Numbers) → payload_of (numbering live) most state payload ≡ Ok first
     → Reads live most first.1 payloads others → Reads live most state (payload ∷ payloads) (first.0 ++ others.0, others.1)
 unfolding batches_of
@@ -48,7 +48,7 @@ pub record IsFirst (live : List StorePrefix) (most : ℕ) (state : Numbers) (pay
   pub rest : batches_of live most first.1 gate payloads ≡ Ok others
   pub is : x ≡ (first.0 ++ others.0, others.1)
 
-first_of : (live : List StorePrefix) (most : ℕ) (state : Numbers) (gate : ℕ) (payload : List ℕ) (payloads : List (List ℕ))
+pub first_of : (live : List StorePrefix) (most : ℕ) (state : Numbers) (gate : ℕ) (payload : List ℕ) (payloads : List (List ℕ))
     (x : List Entry × Numbers) → batches_of live most state gate (payload ∷ payloads) ≡ Ok x → IsFirst live most state payload payloads x
 unfolding batches_of
 first_of live most state gate payload payloads x e =
@@ -63,12 +63,12 @@ first_of live most state gate payload payloads x e =
       is = sym (ok_is (a.0.0 ++ b.0.0, b.0.1) x b.2);
     }
 
-none_read : (live : List StorePrefix) (most : ℕ) (state : Numbers) (gate : ℕ) (x : List Entry × Numbers)
+pub none_read : (live : List StorePrefix) (most : ℕ) (state : Numbers) (gate : ℕ) (x : List Entry × Numbers)
     → batches_of live most state gate [] ≡ Ok x → ([], state) ≡ x
 unfolding batches_of
 none_read live most state gate x e = ok_is ([], state) x e
 
-reads_none : (live : List StorePrefix) (most : ℕ) (state : Numbers) → Reads live most state [] ([], state)
+pub reads_none : (live : List StorePrefix) (most : ℕ) (state : Numbers) → Reads live most state [] ([], state)
 unfolding batches_of
 reads_none live most state gate = refl
 

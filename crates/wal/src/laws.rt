@@ -109,9 +109,16 @@ pub fn entries_follow_the_numbers()
 {}
 
 /// The same commits follow one another where more numbers are taken, none of them below the number
-/// that may come next behind the commits.
+/// that may come next behind the commits; and a segment is read as the same commits then.
 pub fn later_taken_numbers_change_nothing()
-    ensures { (live : List a_prefix) (state last : Numbers) (entries : List Entry) (more : List ℕ)
-        → Follow (numbering live) state entries last → All (λ (t : ℕ). last.next ≤ t) more
+    ensures follow { (live : List a_prefix) (state last : Numbers) (entries : List Entry)
+        (more : List ℕ) → Follow (numbering live) state entries last
+        → All (λ (t : ℕ). last.next ≤ t) more
         → Follow (numbering live) (with_taken state more) entries (with_taken last more) }
+    ensures segment { (live : List a_prefix) (most : ℕ) (start last : Numbers)
+        (payloads : List (List ℕ)) (tail : a_tail) (entries : List Entry) (more : List ℕ)
+        → segment_of live most start payloads (Closed tail) ≡ Ok (entries, last)
+        → All (λ (t : ℕ). last.next ≤ t) more
+        → segment_of live most (with_taken start more) payloads (Closed tail)
+        ≡ Ok (entries, with_taken last more) }
 {}

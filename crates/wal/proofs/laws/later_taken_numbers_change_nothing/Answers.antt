@@ -1,8 +1,13 @@
 use Rattle.std.proofs.Common.{ℕ, ◌≤◌}
 use Rattle.std.proofs.lemmas.List.Elements.{recursion_from_All}
+use Rattle.wal.proofs.SegmentLemmas.{segment_more}
 use Rattle.wal.proofs.TakenLemmas.{follow_more}
 use Rattle.wal.proofs.laws.later_taken_numbers_change_nothing.Goals as goal
 
-pub returns : goal.returns
-returns c = λ live state last entries more follow all.
+pub returns-clause-follow : goal.returns-clause-follow
+returns-clause-follow c = λ live state last entries more follow all.
     follow_more live state last entries more (recursion_from_All (λ (t : ℕ). last.next ≤ t) more all) follow
+
+pub returns-clause-segment : goal.returns-clause-segment
+returns-clause-segment c = λ live most start last payloads tail entries more read all.
+    segment_more live most start payloads tail entries last more (recursion_from_All (λ (t : ℕ). last.next ≤ t) more all) read
