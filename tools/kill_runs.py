@@ -58,7 +58,7 @@ def script(store, rng):
 
 
 def killed_run(program, path, lines, delay):
-    """The replies of a run that is killed after so many seconds, and whether it was still at work."""
+    """The replies of a run that is killed after so many seconds."""
     with subprocess.Popen([program, "run", path], stdin=subprocess.PIPE, stdout=subprocess.PIPE) as run:
         text = "".join(line + "\n" for line, _ in lines).encode()
 
@@ -73,7 +73,6 @@ def killed_run(program, path, lines, delay):
         feeder = threading.Thread(target=feed)
         feeder.start()
         time.sleep(delay)
-        at_work = run.poll() is None
         run.send_signal(signal.SIGKILL)
         replies = run.stdout.read().decode().splitlines()
         feeder.join()
@@ -81,7 +80,7 @@ def killed_run(program, path, lines, delay):
             run.stdin.close()
         except BrokenPipeError:
             pass
-    return replies, at_work
+    return replies
 
 
 def opened(program, path):
@@ -102,7 +101,7 @@ def main():
     program = os.path.abspath(sys.argv[1])
     runs = int(sys.argv[2]) if len(sys.argv) > 2 else 100
     rng = random.Random(int(sys.argv[3]) if len(sys.argv) > 3 else 1)
-    at_work = lost = kept = beyond = files = replies_read = 0
+    unanswered = lost = kept = beyond = files = replies_read = 0
     with tempfile.TemporaryDirectory() as folder:
         store, path = None, None
         for turn in range(runs):
@@ -111,8 +110,9 @@ def main():
                 store, path = Store(), os.path.join(folder, f"{files}.db")
             base = len(store.commits) + 1
             lines = script(store, rng)
-            replies, busy = killed_run(program, path, lines, rng.uniform(0.002, 0.06))
-            at_work += busy
+            replies = killed_run(program, path, lines, rng.uniform(0.002, 0.06))
+            # A run that has answered all its lines waits for more.
+            unanswered += len(replies) - 1 < len(lines)
             replies_read += len(replies)
             safe = base
             if replies:
@@ -136,8 +136,8 @@ def main():
             beyond += number > safe
             lost += len(store.commits) + 1 - number
             store.commits = store.commits[: number - 1]
-    print(f"{runs} runs over {files} files, {at_work} killed at work, {replies_read} replies read,")
-    print(f"{kept} commits found again, {lost} sent ones not, {beyond} openings beyond the last acknowledged sync")
+    print(f"{runs} runs over {files} files, {unanswered} killed before their last line was answered,")
+    print(f"{replies_read} replies read, {kept} commits found again, {lost} sent ones not, {beyond} openings beyond the last acknowledged sync")
 
 
 if __name__ == "__main__":
