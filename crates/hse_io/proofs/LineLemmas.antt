@@ -25,7 +25,7 @@ length-first_line_found xs None none = sym (ap length (first_line-none xs (λ k 
 length-first_line_found xs (Some k) found =
     sym (length-first_line xs k found.0.high (eqb-true _ 10 found.1) (λ j h is. found.0.before j (omega arith) h (eq-eqb _ 10 is)))
 
--- the first line stands at the front
+-- the first line stands at the beginning
 pub take-first_line : (xs : List ℕ) → take (length (first_line xs)) xs ≡ first_line xs
 take-first_line [] = refl
 take-first_line (b ∷ rest) = take_step (eqb b 10) b rest (take-first_line rest)

@@ -29,14 +29,14 @@ takes_first bytes slice line at count step slice_is some is line_is fits step_is
     )
 
 -- a last line without a line feed
-pub takes_last : (front line : List ℕ) (before told rest : Option (List ℕ)) → IsOneLine front → length front ≤ longest_line
-    → Keeps before (prepend_known front told) → ReadsOn front told (Ok InputEnd) line rest → length line ≢ 0
+pub takes_last : (begun line : List ℕ) (before told rest : Option (List ℕ)) → IsOneLine begun → length begun ≤ longest_line
+    → Keeps before (prepend_known begun told) → ReadsOn begun told (Ok InputEnd) line rest → length line ≢ 0
     → IfSome before (λ input. Takes input (Ok Text) line rest)
-takes_last front line None told rest one fits kept reads some = tt
-takes_last front line (Some input) None rest one fits kept reads some = absurd kept
-takes_last front line (Some input) (Some left) rest one fits kept reads some =
-    let input_is : input ≡ front = sym kept ∙ ap (λ l. front ++ l) reads.1.0 ∙ append-nil front in
-    let none_after : after_line front ≡ [] = ap after_line (sym (append-nil front)) ∙ after_line-append front [] one in (
+takes_last begun line None told rest one fits kept reads some = tt
+takes_last begun line (Some input) None rest one fits kept reads some = absurd kept
+takes_last begun line (Some input) (Some left) rest one fits kept reads some =
+    let input_is : input ≡ begun = sym kept ∙ ap (λ l. begun ++ l) reads.1.0 ∙ append-nil begun in
+    let none_after : after_line begun ≡ [] = ap after_line (sym (append-nil begun)) ∙ after_line-append begun [] one in (
       λ none. some (ap length (reads.0 ∙ sym input_is ∙ none)),
       reads.0 ∙ sym one ∙ ap first_line (sym input_is),
       rw reads.0 fits,

@@ -1,4 +1,4 @@
--- Bytes that are written front by front.
+-- Bytes that are written beginning by beginning.
 use Rattle.std.proofs.Common.{◌≡◌, ◌≤◌, ℕ, ◌+◌, ◌-◌, List, ◌++◌, length, take, drop, Result, Ok, Err, OnErr, sym, ap, ◌∙◌, arith, length-drop}
 use Rattle.std.proofs.Math.Seq.{take-add}
 use Rattle.std.proofs.lemmas.List.{take_rest}
@@ -8,9 +8,9 @@ pub OnErr-always : {T E P : Type 0} (r : Result T E) → P → OnErr r P
 OnErr-always (Ok x) p = tt
 OnErr-always (Err e) p = p
 
--- what is done, and a front of what is left, are a longer front
-pub take_front_more : (bytes : List ℕ) (done count : ℕ) → take (done + count) bytes ≡ take done bytes ++ take count (take (length bytes - done) (drop done bytes))
-take_front_more bytes done count = take-add done count bytes ∙ ap (λ l. take done bytes ++ take count l) (sym (take_rest bytes done))
+-- what is done, and a beginning of what is left, are a longer beginning
+pub take_more : (bytes : List ℕ) (done count : ℕ) → take (done + count) bytes ≡ take done bytes ++ take count (take (length bytes - done) (drop done bytes))
+take_more bytes done count = take-add done count bytes ∙ ap (λ l. take done bytes ++ take count l) (sym (take_rest bytes done))
 
-pub front_within : (bytes : List ℕ) (done count : ℕ) → done ≤ length bytes → count ≤ length (take (length bytes - done) (drop done bytes)) → done + count ≤ length bytes
-front_within bytes done count within more = omega (arith, ap length (take_rest bytes done), length-drop done bytes)
+pub within_more : (bytes : List ℕ) (done count : ℕ) → done ≤ length bytes → count ≤ length (take (length bytes - done) (drop done bytes)) → done + count ≤ length bytes
+within_more bytes done count within more = omega (arith, ap length (take_rest bytes done), length-drop done bytes)

@@ -1,9 +1,10 @@
 pub mod AdapterState
 pub mod Faults
+pub mod LineCause
 pub mod Lines
-pub mod LinesLaw
 pub mod Longest
 pub mod ReadsOn
 pub mod SinkState
 pub mod SourceState
 pub mod Takes
+pub mod laws

@@ -1,6 +1,7 @@
 //! What a program reads and writes: lines from a source, bytes to a sink, and how a run ends.
 #![tactic(auto)]
 
+mod limits;
 mod line;
 mod mem_sink;
 mod mem_source;
@@ -10,6 +11,7 @@ mod source;
 mod std_sink;
 mod std_source;
 
+pub use limits::{LONGEST_LINE, LONGEST_SCRIPT};
 pub use line::{Line, NoMemory};
 pub use mem_sink::MemSink;
 pub use mem_source::MemSource;
@@ -18,6 +20,3 @@ pub use sink::{Failed, Sink};
 pub use source::{Got, LineFault, Source};
 pub use std_sink::StdSink;
 pub use std_source::StdSource;
-
-#[cfg(test)]
-mod tests;

@@ -3,6 +3,7 @@ ghost use Rattle.std.specs.Prelude.{◌≡◌, ℕ, ◌+◌, ◌<◌, ◌≤◌,
 ghost use Rattle.hse_io.specs.Lines.{first_line};
 ghost use Rattle.hse_io.specs.Longest.{longest_line};
 
+use crate::LONGEST_LINE;
 use memchr::memchr;
 use std::alloc::{AllocError, AllocFailed, Global};
 use std::marker::Model;
@@ -43,16 +44,13 @@ impl Model for Line {
         × (length l.text.items ≤ longest_line) };
 }
 
-/// The most bytes that a line has.
-const LONGEST: usize = 4_194_304;
-
 impl Line {
     /// An empty line, with room for the longest one.
     pub fn new(alloc: Global) -> Result<Line, NoMemory>
         ensures empty { IfOk result (λ line. line ≡ []) }
     {
         Ok(Line {
-            text: Vec::with_capacity(alloc, LONGEST)?,
+            text: Vec::with_capacity(alloc, LONGEST_LINE)?,
         })
     }
 
@@ -82,7 +80,7 @@ impl Line {
         ensures fits { length self.new ≤ longest_line }
     {
         let count = line_length(bytes);
-        if count > LONGEST - self.text.len() {
+        if count > LONGEST_LINE - self.text.len() {
             return None;
         }
         self.text.extend_from_slice(&bytes[..count]).unwrap();
@@ -94,7 +92,7 @@ impl Line {
 fn line_length(bytes: &[u8]) -> usize
     ensures value { result ≡ length (first_line bytes.now) }
     ensures within { result ≤ length bytes.now }
-    ensures front { take result bytes.now ≡ first_line bytes.now }
+    ensures taken { take result bytes.now ≡ first_line bytes.now }
 {
     memchr(b'\n', bytes).unwrap_or(bytes.len())
 }

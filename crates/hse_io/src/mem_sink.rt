@@ -84,9 +84,8 @@ impl Sink for MemSink {
 
     /// Counts the call, and appends all the bytes or none.
     fn write(&mut self, bytes: &[u8]) -> Result<(), Failed>
-        ensures written { OnOk result (Appends (Some self.old.held) (Some self.new.held) bytes.now) }
-        ensures partly { OnErr result ((front rest : List ℕ) × (bytes.now ≡ front ++ rest)
-            × Appends (Some self.old.held) (Some self.new.held) front) }
+        ensures partly { OnErr result ((begun rest : List ℕ) × (bytes.now ≡ begun ++ rest)
+            × Appends (Some self.old.held) (Some self.new.held) begun) }
         ensures cause { HasCause (self.old.listed + self.old.refused)
             (self.new.listed + self.new.refused) result }
         ensures ok { OnOk result (self.new ≡ record self.old {

@@ -1,8 +1,8 @@
 //! A source in memory, whose failing calls are listed.
-ghost use Rattle.std.specs.Prelude.{◌≡◌, ◌≢◌, ◌↔◌, ◌≤◌, Some, length, IsTrue, OnOk, OnErr, IsErrOf};
-ghost use Rattle.hse_io.specs.Faults.{Rose, next_count};
+ghost use Rattle.std.specs.Prelude.{◌≡◌, ◌≢◌, ◌↔◌, Some, IsTrue, OnErr, IsErrOf};
+ghost use Rattle.hse_io.specs.Faults.{next_count};
+ghost use Rattle.hse_io.specs.LineCause.{HasLineCause};
 ghost use Rattle.hse_io.specs.Takes.{Takes};
-ghost use Rattle.hse_io.specs.Longest.{longest_line};
 ghost use Rattle.hse_io.specs.SourceState.{IsFailing};
 
 use crate::{Got, Line, LineFault, Source};
@@ -68,7 +68,6 @@ impl MemSource {
     fn take_line(&mut self, into: &mut Line) -> Result<Got, LineFault>
         ensures takes { Takes self.old.left result into.new (Some self.new.left) }
         ensures same { self.new ≡ record self.old { left = self.new.left } }
-        ensures fits { OnOk result (length into.new ≤ longest_line) }
         ensures answers { result ≢ Err LineFault.Failed }
         ensures unread { OnErr result (self.new.left ≡ self.old.left) }
     {
@@ -93,14 +92,16 @@ impl Source for MemSource {
     /// Counts the call. An `Err` takes no byte.
     fn read_line(&mut self, into: &mut Line) -> Result<Got, LineFault>
         ensures takes { Takes self.old.left result into.new (Some self.new.left) }
-        ensures fits { OnOk result (length into.new ≤ longest_line) }
-        ensures later { self.old.faults ≤ self.new.faults }
-        ensures failed { IsErrOf result LineFault.Failed → Rose self.old.faults self.new.faults }
+        ensures cause { HasLineCause self.old.faults self.new.faults result }
         ensures listed { IsErrOf result LineFault.Failed ↔ IsFailing self.old }
-        ensures calls { self.new.calls ≡ next_count self.old.calls }
-        ensures fails { self.new.fails ≡ self.old.fails }
-        ensures unlisted { ¬ IsFailing self.old → self.new.faults ≡ self.old.faults }
-        ensures counted { IsFailing self.old → self.new.faults ≡ next_count self.old.faults }
+        ensures failing { IsFailing self.old → self.new ≡ record self.old {
+          calls = next_count self.old.calls;
+          faults = next_count self.old.faults;
+        } }
+        ensures reading { ¬ IsFailing self.old → self.new ≡ record self.old {
+          calls = next_count self.old.calls;
+          left = self.new.left;
+        } }
         ensures unread { OnErr result (self.new.left ≡ self.old.left) }
     {
         if self.starts_failing_call() {

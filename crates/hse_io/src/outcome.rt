@@ -17,9 +17,9 @@ pub enum Status {
     NotFormed = 6,
     /// Memory was refused, outside a line.
     NoMemory = 7,
-    /// A line has more than 4,194,304 bytes.
+    /// A line has more than `LONGEST_LINE` bytes.
     LineTooLong = 8,
-    /// The lines taken have 2^40 bytes or more, each counted with one byte more.
+    /// The lines taken have more than `LONGEST_SCRIPT` bytes, each counted with one byte more.
     ScriptTooLong = 9,
     /// The device already holds something.
     NotEmpty = 10,

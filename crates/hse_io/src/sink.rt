@@ -19,10 +19,10 @@ pub trait Sink {
     /// How often the sink has failed.
     ghost faults: { Self → ℕ };
 
-    /// Appends all the bytes, or fails and has appended a front of them.
+    /// Appends all the bytes. After an `Err` some of them are appended, up to any place.
     fn write(&mut self, bytes: &[u8]) -> Result<(), Failed>
         ensures written { OnOk result (Appends (contents self.old) (contents self.new) bytes.now) }
-        ensures partly { OnErr result ((front rest : List ℕ) × (bytes.now ≡ front ++ rest)
-            × Appends (contents self.old) (contents self.new) front) }
+        ensures partly { OnErr result ((begun rest : List ℕ) × (bytes.now ≡ begun ++ rest)
+            × Appends (contents self.old) (contents self.new) begun) }
         ensures cause { HasCause (faults self.old) (faults self.new) result };
 }

@@ -1,8 +1,7 @@
 //! A source of lines.
-ghost use Rattle.std.specs.Prelude.{◌≡◌, ◌≤◌, List, ℕ, Option, length, OnOk, IfSome, IsErrOf};
-ghost use Rattle.hse_io.specs.Faults.{Rose};
+ghost use Rattle.std.specs.Prelude.{◌≡◌, List, ℕ, Option, IfSome};
+ghost use Rattle.hse_io.specs.LineCause.{HasLineCause};
 ghost use Rattle.hse_io.specs.Takes.{Takes};
-ghost use Rattle.hse_io.specs.Longest.{longest_line};
 
 use crate::Line;
 use thiserror::Error;
@@ -34,11 +33,10 @@ pub trait Source {
     /// How often the source has failed.
     ghost faults: { Self → ℕ };
 
-    /// Takes the next line, without its line feed, into the buffer; a last line may lack the line feed. After an
-    /// `Err` the buffer and what is left of the source are open. It takes no memory.
+    /// Takes the next line, without its line feed, into the buffer; a last line may lack the line feed. `TooLong`
+    /// where it has more than `LONGEST_LINE` bytes, `Failed` where the source failed, which alone counts a fault.
+    /// After an `Err` the buffer and what is left of the source are open. It takes no memory.
     fn read_line(&mut self, into: &mut Line) -> Result<Got, LineFault>
         ensures takes { IfSome (remaining self.old) (λ input. Takes input result into.new (remaining self.new)) }
-        ensures fits { OnOk result (length into.new ≤ longest_line) }
-        ensures later { faults self.old ≤ faults self.new }
-        ensures failed { IsErrOf result LineFault.Failed → Rose (faults self.old) (faults self.new) };
+        ensures cause { HasLineCause (faults self.old) (faults self.new) result };
 }

@@ -6,7 +6,7 @@ use Rattle.hse_io.proofs.line.line_length.Goals as goal
 pub returns-clause-value : goal.returns-clause-value
 returns-clause-value c = c.unwrap_or.ensures ∙ length-first_line_found c.args.bytes.now c.memchr.result c.memchr.ensures
 
-pub returns-clause-front : goal.returns-clause-front
-returns-clause-front c =
+pub returns-clause-taken : goal.returns-clause-taken
+returns-clause-taken c =
     let bytes = c.args.bytes.now in
     ap (λ n. take n bytes) (c.unwrap_or.ensures ∙ length-first_line_found bytes c.memchr.result c.memchr.ensures) ∙ take-first_line bytes

@@ -1,5 +1,5 @@
 -- The line so far and what is left are the input, and no fault has come.
-use Rattle.std.proofs.Common.{◌-◌, ◌≤◌, length}
+use Rattle.std.proofs.Common.{◌≡◌, ◌≤◌, length}
 use Rattle.std.specs.Io.KnownBytes.{Keeps, prepend_known}
 use Rattle.hse_io.specs.Longest.{longest_line}
 use Rattle.hse_io.specs.ReadsOn.{IsOneLine}
@@ -7,11 +7,8 @@ use Rattle.hse_io.proofs.std_source.StdSourceSource.read_line.Given as goal
 
 abbrev pub invariant-steps : goal.invariant-steps
 invariant-steps g l = record {
-  front : IsOneLine l.into;
+  one_line : IsOneLine l.into;
   room : length l.into ≤ longest_line;
   kept : Keeps l.initial.self.told (prepend_known l.into l.self.told);
-  later : l.initial.self.faults ≤ l.self.faults;
+  faults : l.self.faults ≡ l.initial.self.faults;
 }
-
-abbrev pub decreases-steps : goal.decreases-steps
-decreases-steps g l = longest_line - length l.into

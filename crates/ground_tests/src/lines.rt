@@ -1,7 +1,7 @@
-//! What no clause says: that calls succeed, and the lines and numbers that were meant.
-use crate::{
-    Failed, Got, Line, LineFault, MemSink, MemSource, NoMemory, Sink, Source, Status, StdSink,
-    StdSource,
+//! What no clause of `hse_io` says: that calls succeed, the lines and numbers that were meant, and what is tried again.
+use hse_io::{
+    Failed, Got, LONGEST_LINE, Line, LineFault, MemSink, MemSource, NoMemory, Sink, Source, Status,
+    StdSink, StdSource,
 };
 use std::alloc::Global;
 use std::io;
@@ -63,6 +63,7 @@ fn expect_long(
 
 #[test]
 fn a_line_may_have_4194304_bytes_and_no_more(rt: HostRuntime) -> Result<(), Fail> {
+    assert_eq!(rt; LONGEST_LINE, 4_194_304);
     expect_long(&rt, rt.alloc(), 4_194_304, Ok(Got::Text))?;
     expect_long(&rt, rt.alloc(), 4_194_305, Err(LineFault::TooLong))?;
     Ok(())
@@ -119,6 +120,74 @@ fn a_slow_writer_gets_all_bytes_and_a_full_one_is_a_failure(rt: HostRuntime) -> 
         assert_eq!(rt; sink.write(b"reply"), want);
         assert_eq!(rt; writer.taken.len(), 5 * most);
     }
+    Ok(())
+}
+
+/// A reader and a writer whose first calls are interrupted, and which then give or take a byte at each call.
+#[derive(Drop)]
+struct Interrupts {
+    left: u32,
+    given: u8,
+    taken: Vec<u8>,
+}
+
+/// One that is interrupted twice.
+fn interrupted(alloc: Global) -> Interrupts {
+    Interrupts {
+        left: 2,
+        given: b'a',
+        taken: Vec::new(alloc),
+    }
+}
+
+impl Interrupts {
+    fn next(&mut self) -> io::Result<()> {
+        if self.left > 0 {
+            self.left -= 1;
+            return Err(io::Error::from(io::ErrorKind::Interrupted));
+        }
+        Ok(())
+    }
+}
+
+impl Read for Interrupts {
+    fn read(&mut self, into: &mut [u8]) -> io::Result<usize> {
+        self.next()?;
+        if into.is_empty() || self.given > b'c' {
+            return Ok(0);
+        }
+        into[0] = self.given;
+        self.given = self.given.saturating_add(1);
+        self.left = 2;
+        Ok(1)
+    }
+}
+
+impl Write for Interrupts {
+    fn write(&mut self, bytes: &[u8]) -> io::Result<usize> {
+        self.next()?;
+        let count = bytes.len().min(1);
+        self.taken.extend_from_slice(&bytes[..count])?;
+        self.left = 2;
+        Ok(count)
+    }
+
+    fn flush(&mut self) -> io::Result<()> {
+        Ok(())
+    }
+}
+
+#[test]
+fn an_interrupted_read_or_write_is_tried_again(rt: HostRuntime) -> Result<(), Fail> {
+    let alloc = rt.alloc();
+    let mut line = Line::new(alloc)?;
+    let mut source = StdSource::new(alloc, interrupted(alloc))?;
+    expect_line(&rt, &mut source, &mut line, b"abc");
+    assert_eq!(rt; source.read_line(&mut line), Ok(Got::Ended));
+    let mut writer = interrupted(alloc);
+    let mut sink = StdSink::new(&mut writer);
+    assert_eq!(rt; sink.write(b"reply"), Ok(()));
+    assert_eq!(rt; writer.taken.as_slice(), b"reply".as_slice());
     Ok(())
 }
 

@@ -1,0 +1,2 @@
+-- What holds of the definitions, for proofs of crates above.
+pub mod Lines
