@@ -1,5 +1,5 @@
 -- What a disk over a file keeps.
-use Rattle.std.specs.Prelude.{◌≡◌, ℕ, ◌-◌, ◌^◌, ℤ, List, Option, None, Result, Ok, Err, IsOk, IsSome}
+use Rattle.std.specs.Prelude.{◌≡◌, ℕ, ◌-◌, ◌^◌, ℤ, pos, ◌<ℤ◌, List, Option, None, Some, Result, Ok, Err, IsOk, IsSome}
 use Rattle.hse_io.specs.Faults.{next_count}
 
 -- the path, the descriptor once the file is open, the size that was told or set last, the faults, the calls so far, and
@@ -11,6 +11,11 @@ pub record FileState : Type 0 where
   pub faults : ℕ
   pub clock : ℕ
   pub failed_at : ℕ
+
+-- the file is open, by a descriptor above those of the standard streams
+abbrev pub IsOpen : Option ℤ → Type 0
+IsOpen None = ⊥
+IsOpen (Some descriptor) = pos 2 <ℤ descriptor
 
 -- the file of this path before the first call
 abbrev pub untouched : List ℕ → FileState
@@ -30,6 +35,6 @@ failed_after clock last (Err _) = clock
 -- value it opens none.
 pub record KeepsFile {T E : Type 0} (old new : FileState) (result : Result T E) : Type 0 where
   pub same_path : new.path ≡ old.path
-  pub opened : IsOk result → IsSome new.descriptor
+  pub opened : IsOk result → IsOpen new.descriptor
   pub stays : IsSome old.descriptor → new.descriptor ≡ old.descriptor
   pub spent : old.clock ≡ 2 ^ 64 - 1 → new.descriptor ≡ old.descriptor

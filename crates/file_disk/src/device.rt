@@ -59,7 +59,7 @@ impl<R: Files<File = File> + Drop> Disk for FileDisk<R> {
     {
         self.begin()?;
         let told = self.opened().metadata();
-        let length = self.answer(told)?.len();
+        let length = self.count_fault_of(told)?.len();
         self.extent = length;
         Ok(length)
     }
@@ -81,7 +81,7 @@ impl<R: Files<File = File> + Drop> Disk for FileDisk<R> {
     {
         self.begin()?;
         let done = grow(self.opened(), size);
-        self.answer(done)?;
+        self.count_fault_of(done)?;
         self.extent = size;
         Ok(())
     }
@@ -100,7 +100,7 @@ impl<R: Files<File = File> + Drop> Disk for FileDisk<R> {
     {
         self.begin()?;
         let done = self.opened().read_exact_at(into, at);
-        self.answer(done)
+        self.count_fault_of(done)
     }
 
     fn write(&mut self, at: u64, bytes: &[u8]) -> Result<(), Failed>
@@ -117,10 +117,10 @@ impl<R: Files<File = File> + Drop> Disk for FileDisk<R> {
     {
         self.begin()?;
         let done = self.opened().write_all_at(bytes, at);
-        self.answer(done)
+        self.count_fault_of(done)
     }
 
-    // The data, and the length with them.
+    // The data, the length with them, and at the first time the folder.
     fn sync(&mut self) -> Result<(), Failed>
         ensures extent { self.new.extent ≡ self.old.extent }
         ensures clock { self.new.clock ≡ next_count self.old.clock }
@@ -133,8 +133,8 @@ impl<R: Files<File = File> + Drop> Disk for FileDisk<R> {
         ensures file { KeepsFile self.old self.new result }
     {
         self.begin()?;
-        let done = self.opened().sync_all();
-        self.answer(done)
+        let done = self.sync_all();
+        self.count_fault_of(done)
     }
 
     fn clock(&self) -> u64 {

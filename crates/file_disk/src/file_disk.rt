@@ -1,21 +1,23 @@
 //! The file, its opening and its counts.
-ghost use Rattle.std.specs.Prelude.{◌≡◌, true};
-ghost use Rattle.std.specs.Fs.{new_options, with_create, with_read, with_write};
+ghost use Rattle.std.specs.Prelude.{◌≡◌};
 
+use crate::opening::{open_locked, sync_folder};
 use hse_io::NoMemory;
 use media_disk::Failed;
 use std::alloc::Global;
-use std::fs::{File, OpenOptions};
+use std::fs::File;
 use std::io;
 use std::marker::Model;
 use std::rt::Files;
 
-/// A file that is opened at its first call, and made where there is none. What it holds is kept.
+/// A file that is opened at its first call, and made where there is none. What it holds is kept. While it is open it
+/// is locked: where another disk, of this or another process, has the file open, the first call fails.
 #[derive(Drop)]
 pub struct FileDisk<R: Files<File = File>> {
     rt: R,
     path: String,
     file: Option<File>,
+    is_folder_synced: bool,
     pub(crate) extent: u64,
     pub(crate) faults: u64,
     pub(crate) clock: u64,
@@ -23,7 +25,7 @@ pub struct FileDisk<R: Files<File = File>> {
 }
 
 impl<R: Files<File = File>> Model for FileDisk<R> {
-    ghost use Rattle.std.specs.Prelude.{option_map, string_bytes};
+    ghost use Rattle.std.specs.Prelude.{option_map, string_bytes, IfSome, pos, ◌<ℤ◌};
     ghost use Rattle.std.specs.Fd.{file_raw_fd};
     ghost use Rattle.file_disk.specs.FileState.{FileState};
 
@@ -37,22 +39,15 @@ impl<R: Files<File = File>> Model for FileDisk<R> {
       clock = s.clock;
       failed_at = s.failed_at;
     } };
-}
 
-// To read and to write, made where there is none, and not cut where there is one.
-fn kept() -> OpenOptions
-    ensures { result ≡ with_create (with_write (with_read new_options true) true) true }
-{
-    let mut options = OpenOptions::new();
-    options.read(true).write(true).create(true);
-    options
+    ghost invariant = { λ s. IfSome (option_map file_raw_fd s.file) (λ descriptor. pos 2 <ℤ descriptor) };
 }
 
 impl<R: Files<File = File> + Drop> FileDisk<R> {
     ghost use Rattle.std.specs.Prelude.{◌-◌, ◌^◌, ◌≤◌, Some, Ok, IfOk, IsOk, IsErr, IsSome, OnOk, OnErr, MatchResult};
     ghost use Rattle.std.specs.Fd.{file_raw_fd};
     ghost use Rattle.hse_io.specs.Faults.{HasCause, next_count};
-    ghost use Rattle.file_disk.specs.FileState.{KeepsFile, failed_after, faults_after, untouched};
+    ghost use Rattle.file_disk.specs.FileState.{IsOpen, KeepsFile, failed_after, faults_after, untouched};
 
     /// The file of this path, which is not touched yet.
     pub fn at(rt: R, alloc: Global, path: &str) -> Result<FileDisk<R>, NoMemory>
@@ -62,6 +57,7 @@ impl<R: Files<File = File> + Drop> FileDisk<R> {
             rt,
             path: String::from_str(alloc, path)?,
             file: None,
+            is_folder_synced: false,
             extent: 0,
             faults: 0,
             clock: 0,
@@ -71,14 +67,14 @@ impl<R: Files<File = File> + Drop> FileDisk<R> {
 
     // Opens the file where that was not done yet.
     fn open(&mut self) -> io::Result<()>
-        ensures opened { OnOk result (IsSome self.new.descriptor) }
+        ensures opened { OnOk result (IsOpen self.new.descriptor) }
         ensures stays { IsSome self.old.descriptor → IsOk result }
         ensures same { IsSome self.old.descriptor → self.new ≡ self.old }
         ensures failed { OnErr result (self.new ≡ self.old) }
         ensures others { self.new ≡ record self.old { descriptor = self.new.descriptor } }
     {
         if self.file.is_none() {
-            self.file = Some(kept().open(&self.rt, self.path.as_str())?);
+            self.file = Some(open_locked(&self.rt, self.path.as_str())?);
         }
         Ok(())
     }
@@ -94,6 +90,19 @@ impl<R: Files<File = File> + Drop> FileDisk<R> {
         }
     }
 
+    /// Makes the data and the length safe, and at the first time also that the file stands in its folder.
+    pub(crate) fn sync_all(&mut self) -> io::Result<()>
+        requires { IsSome self.old.descriptor }
+        ensures { self.new ≡ self.old }
+    {
+        self.opened().sync_all()?;
+        if !self.is_folder_synced {
+            sync_folder(&self.rt, self.path.as_str())?;
+            self.is_folder_synced = true;
+        }
+        Ok(())
+    }
+
     // Counts a fault of the call before the clock.
     fn fault(&mut self) -> Failed
         ensures state { self.new ≡ record self.old { faults = next_count self.old.faults; failed_at = self.old.clock } }
@@ -105,7 +114,7 @@ impl<R: Files<File = File> + Drop> FileDisk<R> {
     }
 
     /// Passes on what the system answered, and counts a fault.
-    pub(crate) fn answer<T: Drop>(&mut self, outcome: io::Result<T>) -> Result<T, Failed>
+    pub(crate) fn count_fault_of<T: Drop>(&mut self, outcome: io::Result<T>) -> Result<T, Failed>
         ensures answer { MatchResult outcome (λ told. result ≡ Ok told) (λ error. IsErr result) }
         ensures state { self.new ≡ record self.old {
           faults = faults_after self.old.faults outcome;
@@ -137,6 +146,6 @@ impl<R: Files<File = File> + Drop> FileDisk<R> {
         }
         self.clock += 1;
         let opened = self.open();
-        self.answer(opened)
+        self.count_fault_of(opened)
     }
 }

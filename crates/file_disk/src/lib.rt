@@ -4,7 +4,6 @@
 
 mod device;
 mod file_disk;
-#[cfg(test)]
-mod tests;
+mod opening;
 
 pub use file_disk::FileDisk;

@@ -1,7 +1,7 @@
-//! Real files: made, read again, cut by another hand, and not to be had.
+//! `FileDisk` over real files: made, read again, locked, cut by another hand, and not to be had.
 ghost use Rattle.std.specs.Prelude.{◌≡◌};
 
-use crate::FileDisk;
+use file_disk::FileDisk;
 use media_disk::Disk;
 use std::process::Abort;
 use std::test::Fail;
@@ -12,7 +12,7 @@ fn folder(rt: &HostRuntime, test: &str) -> Result<String, Fail> {
     let alloc = rt.alloc();
     let room = env::temp_dir(rt)?;
     let id = process::id(rt.process());
-    let folder = format!(in alloc; "{}/file_disk_{test}_{id}", room.as_str())?;
+    let folder = format!(in alloc; "{}/ground_tests_{test}_{id}", room.as_str())?;
     let _ = fs::remove_dir_all(rt, folder.as_str());
     fs::create_dir(rt, folder.as_str())?;
     Ok(folder)
@@ -54,21 +54,36 @@ fn a_file_is_made_at_the_first_call_and_kept_when_it_is_opened_again(
     assert!(rt; disk.write(4, b"xyz").is_ok());
     assert!(rt; disk.sync().is_ok());
     holds(&rt, &mut disk, *b"\0\0abxyz\0");
-    assert_eq!(rt; (disk.clock(), disk.faults), (9, 0));
+    assert_eq!(rt; disk.clock(), 9);
     assert_eq!(rt;
         fs::read(&rt, path.as_str())?.as_slice(),
         b"\0\0abxyz\0".as_slice()
     );
-    // A second disk opens what is there, beside the first one and after it.
+    drop(disk);
     let mut second = FileDisk::at(&rt, alloc, path.as_str())?;
     holds(&rt, &mut second, *b"\0\0abxyz\0");
-    assert!(rt; second.write(0, b"12").is_ok());
-    holds(&rt, &mut disk, *b"12abxyz\0");
-    assert!(rt; second.sync().is_ok());
-    drop((disk, second));
-    let mut third = FileDisk::at(&rt, alloc, path.as_str())?;
-    holds(&rt, &mut third, *b"12abxyz\0");
-    assert_eq!(rt; (third.clock(), third.faults), (2, 0));
+    assert_eq!(rt; second.clock(), 2);
+    fs::remove_dir_all(&rt, folder.as_str())?;
+    Ok(())
+}
+
+#[test]
+fn a_file_that_another_disk_has_open_is_refused_and_left_alone(rt: HostRuntime) -> Result<(), Fail> {
+    let alloc = rt.alloc();
+    let folder = folder(&rt, "locked")?;
+    let path = format!(in alloc; "{folder}/device")?;
+    fs::write(&rt, path.as_str(), b"abcdefgh".as_slice())?;
+    let mut disk = FileDisk::at(&rt, alloc, path.as_str())?;
+    holds(&rt, &mut disk, *b"abcdefgh");
+    let mut second = FileDisk::at(&rt, alloc, path.as_str())?;
+    assert!(rt; second.size().is_err());
+    assert!(rt; second.set_size(4).is_err());
+    assert!(rt; second.sync().is_err());
+    assert_eq!(rt; second.clock(), 3);
+    holds(&rt, &mut disk, *b"abcdefgh");
+    // Once the first disk is gone, the file is the second one's.
+    drop(disk);
+    holds(&rt, &mut second, *b"abcdefgh");
     fs::remove_dir_all(&rt, folder.as_str())?;
     Ok(())
 }
@@ -85,12 +100,10 @@ fn a_read_past_the_end_of_a_cut_file_is_a_fault(rt: HostRuntime) -> Result<(), F
     fs::write(&rt, path.as_str(), b"1234".as_slice())?;
     let mut bytes = [0u8; 4];
     assert!(rt; disk.read(2, &mut bytes).is_err());
-    assert_eq!(rt; (disk.clock(), disk.faults), (3, 1));
     assert!(rt; disk.read(4, &mut bytes).is_err());
-    assert_eq!(rt; (disk.clock(), disk.faults), (4, 2));
     assert!(rt; disk.read(0, &mut bytes).is_ok());
     assert_eq!(rt; bytes, *b"1234");
-    assert_eq!(rt; (disk.clock(), disk.faults), (5, 2));
+    assert_eq!(rt; disk.clock(), 5);
     fs::remove_dir_all(&rt, folder.as_str())?;
     Ok(())
 }
@@ -104,9 +117,8 @@ fn a_file_that_holds_something_is_given_no_size(rt: HostRuntime) -> Result<(), F
     // Its size was not asked for, so that the disk takes it for empty.
     let mut disk = FileDisk::at(&rt, alloc, path.as_str())?;
     assert!(rt; disk.set_size(4).is_err());
-    assert_eq!(rt; (disk.clock(), disk.faults, disk.extent), (1, 1, 0));
     holds(&rt, &mut disk, *b"abcdefgh");
-    assert_eq!(rt; (disk.clock(), disk.faults, disk.extent), (3, 1, 8));
+    assert_eq!(rt; disk.clock(), 3);
     fs::remove_dir_all(&rt, folder.as_str())?;
     Ok(())
 }
@@ -119,20 +131,15 @@ fn each_call_in_a_folder_that_is_not_there_is_a_fault(rt: HostRuntime) -> Result
     let path = format!(in alloc; "{inner}/device")?;
     let mut disk = FileDisk::at(&rt, alloc, path.as_str())?;
     assert!(rt; disk.size().is_err());
-    assert_eq!(rt; (disk.clock(), disk.faults), (1, 1));
     assert!(rt; disk.set_size(8).is_err());
-    assert_eq!(rt; (disk.clock(), disk.faults), (2, 2));
     let mut none = [0u8; 0];
     assert!(rt; disk.read(0, &mut none).is_err());
-    assert_eq!(rt; (disk.clock(), disk.faults), (3, 3));
     assert!(rt; disk.write(0, b"").is_err());
-    assert_eq!(rt; (disk.clock(), disk.faults), (4, 4));
     assert!(rt; disk.sync().is_err());
-    assert_eq!(rt; (disk.clock(), disk.faults), (5, 5));
     // Once the folder is there, so is the file.
     fs::create_dir(&rt, inner.as_str())?;
     has_size(&rt, &mut disk, 0);
-    assert_eq!(rt; (disk.clock(), disk.faults), (6, 5));
+    assert_eq!(rt; disk.clock(), 6);
     assert!(rt; fs::exists(&rt, path.as_str())?);
     fs::remove_dir_all(&rt, folder.as_str())?;
     Ok(())
