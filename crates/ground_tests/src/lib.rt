@@ -1,0 +1,5 @@
+//! Tests of the lowest crates over their public calls.
+#![tactic(auto)]
+
+#[cfg(test)]
+mod disks;
