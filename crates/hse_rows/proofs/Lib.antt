@@ -7,6 +7,7 @@ pub mod OverlapLemmas
 pub mod WriteLemmas
 pub mod WriteCases
 pub mod LimitCases
+pub mod SizeCases
 pub mod MachineCases
 pub mod ReopenCases
 pub mod RoomCases

@@ -1,9 +1,10 @@
 -- Layouts: the sets at the nodes of the stores' trees, and what the jobs make of them.
-use Rattle.std.specs.Prelude.{ℕ, ◌+◌, ◌-◌, ◌==◌, Bool, false, ◌&&◌, not, List, [], ◌∷◌, ◌++◌, length, take, drop, flat_map, sum_by, Option, Some, None}
+use Rattle.std.specs.Prelude.{ℕ, ◌+◌, ◌-◌, ◌==◌, Bool, false, ◌&&◌, ◌||◌, not, List, [], ◌∷◌, ◌++◌, length, take, drop, flat_map, sum_by, Option, Some, None}
 use Rattle.std.specs.List.{filter, find, fold, list_any}
 use Rattle.std.specs.declared.cmp.Ordering.{Ordering}
 use Rattle.std.specs.Ordering.{nat_cmp, on, then_cmp}
 use Rattle.std.specs.Cmp.Lexicographic.{slice_cmp}
+use Rattle.hse_rows.specs.declared.change.Change.{Change}
 use Rattle.hse_rows.specs.declared.row.Row.{Row}
 use Rattle.hse_rows.specs.Change.{covers, target}
 use Rattle.hse_rows.specs.Sorted.{placed}
@@ -12,7 +13,7 @@ use Rattle.hse_rows.specs.State.{Store}
 use Rattle.hse_rows.specs.Log.{Numbered}
 use Rattle.hse_rows.specs.Newest.{merged, newest, rows_of}
 use Rattle.hse_rows.specs.Packing.{prefix_blocks, key_blocks, value_blocks}
-use Rattle.hse_rows.specs.Routing.{child_of}
+use Rattle.hse_rows.specs.Routing.{is_short, child_of}
 
 -- rows in order, and how many blocks of each kind hold them
 pub record RowsInBlocks : Type 0 where
@@ -120,10 +121,13 @@ keys_compacted slot_size layout store path older len last =
 abbrev pub children : List ℕ
 children = 0 ∷ 1 ∷ 2 ∷ 3 ∷ 4 ∷ 5 ∷ 6 ∷ 7 ∷ 8 ∷ 9 ∷ 10 ∷ 11 ∷ 12 ∷ 13 ∷ 14 ∷ 15 ∷ []
 
--- the rows that go to a child of a node at this depth
+-- a row goes to a child of a node at this depth, and one of a short prefix to each
+abbrev pub goes_to : ℕ → ℕ → ℕ → Change → Bool
+goes_to depth prefix_length child change =
+    is_short prefix_length change || (child_of depth prefix_length (target change) == child)
+
 abbrev pub part_for : ℕ → ℕ → ℕ → List Row → List Row
-part_for depth prefix_length child rows =
-    filter (λ row. child_of depth prefix_length (target row.change) == child) rows
+part_for depth prefix_length child rows = filter (λ row. goes_to depth prefix_length child row.change) rows
 
 -- A spill divides the merged rows of a node's oldest sets among its children, one set at the front of each.
 abbrev pub spilled : ℕ → Layout → ℕ → List ℕ → ℕ → ℕ → Layout

@@ -15,6 +15,8 @@ pub mod History
 pub mod Folding
 pub mod Rooted
 pub mod Log
+pub mod Sizes
+pub mod TakenRuns
 pub mod ManifestRoom
 pub mod Lines
 pub mod Answers

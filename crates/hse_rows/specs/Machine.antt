@@ -8,14 +8,8 @@ use Rattle.hse_rows.specs.NormalForm.{normal_form}
 use Rattle.hse_rows.specs.State.{Store, State, store_named}
 use Rattle.hse_rows.specs.History.{Event, commits, creates, drops, new_store, without, folded, last_number}
 use Rattle.hse_rows.specs.Log.{LogState, new_log, charge_of_active, room_of, room_left, logged}
+use Rattle.hse_rows.specs.Sizes.{Sizes}
 use Rattle.hse_rows.specs.ManifestRoom.{ManifestState, greatest_sequence, batch_bytes, head_bytes, creation_bytes, drop_bytes, base_bytes, gained}
-
--- how large the parts of the device are
-pub record Sizes : Type 0 where
-  pub slot_size : ℕ
-  pub slots : ℕ
-  pub half_size : ℕ
-  pub segment_size : ℕ
 
 pub record MachineState : Type 0 where
   pub sizes : Sizes
@@ -79,9 +73,6 @@ longest_value sizes = min 1048576 (sizes.slot_size - 64)
 abbrev pub longest_prefix : ℕ
 longest_prefix = 32
 
-abbrev pub most_stores : ℕ
-most_stores = 256
-
 abbrev pub greatest_number : ℕ
 greatest_number = 2 ^ 62
 
@@ -89,7 +80,7 @@ pub record IsWithinLimits (m : MachineState) : Type 0 where
   -- the commits of the active layer have room in their segment
   pub room : charge_of_active m.log ≤ whole_room m
   pub numbers : number_of m ≤ greatest_number
-  pub stores : length (now m).stores ≤ most_stores
+  pub stores : length (now m).stores ≤ m.sizes.most_stores
   -- the manifest's batches have room in their half
   pub half : m.manifest.used ≤ m.sizes.half_size
   pub sequences : m.manifest.sequence ≤ greatest_sequence

@@ -1,6 +1,7 @@
 -- The manifest's room: how many bytes its entries take, and when it goes to its other half.
 use Rattle.std.specs.Prelude.{ℕ, ◌+◌, ◌-◌, ◌*◌, ◌^◌, nat_le, nat_lt, ◌&&◌, ◌||◌, not, Bool, if◌then◌else◌, List, length, sum_by}
 use Rattle.hse_rows.specs.State.{Store}
+use Rattle.hse_rows.specs.TakenRuns.{runs_of}
 
 pub record ManifestState : Type 0 where
   -- the sequence of the half in force
@@ -30,9 +31,9 @@ drop_bytes = 17
 abbrev pub store_bytes : Store → ℕ
 store_bytes store = 15 + length store.name
 
--- The whole state: kind, horizon, first segment, the taken numbers and the stores, each list with its count.
+-- The whole state: kind, horizon, first segment, the taken numbers in runs and the stores, each list with its count.
 abbrev pub base_bytes : List ℕ → List Store → ℕ
-base_bytes taken stores = 25 + 8 * length taken + sum_by store_bytes stores
+base_bytes taken stores = 25 + 8 * length (runs_of taken) + sum_by store_bytes stores
 
 -- the greatest sequence
 abbrev pub greatest_sequence : ℕ

@@ -19,8 +19,7 @@ pub fn normal_forms_do_the_same()
     ensures { NormalFormsDoTheSame }
 {}
 
-/// Where all prefixes of a store have one length, a write overlaps one of a normal form exactly where
-/// it overlaps one of the writes that it is of.
+/// A write overlaps one of a normal form exactly where it overlaps one of the writes that it is of.
 pub fn normal_forms_overlap_the_same()
     ensures { NormalFormsOverlapTheSame }
 {}
