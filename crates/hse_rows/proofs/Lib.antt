@@ -27,3 +27,9 @@ pub mod LimitLemmas
 pub mod RootedLemmas
 pub mod StepRoots
 pub mod RecordLemmas
+pub mod PlaceLemmas
+pub mod ApartLemmas
+pub mod ModeLemmas
+pub mod IsolationLemmas
+pub mod SourceLemmas
+pub mod TimelineRoots

@@ -26,6 +26,10 @@ pub mod FirstRefusal
 pub mod Step
 pub mod Transaction
 pub mod Conflict
+pub mod Moves
+pub mod Timeline
+pub mod Isolation
+pub mod Sources
 pub mod Cursor
 pub mod Newest
 pub mod Packing

@@ -20,8 +20,9 @@ pub use change::{Change, ChangeRef};
 pub use edge::Edge;
 pub use key::{Key, KeyFault};
 pub use laws::{
-    answers_lead_one_way, creations_may_come_first, keys_hold_last_effects, lines_have_one_answer,
-    normal_forms_do_the_same, normal_forms_overlap_the_same, overlaps_go_both_ways, snapshots_stay,
+    answers_lead_one_way, conflicts_are_of_transactions, creations_may_come_first,
+    keys_hold_last_effects, lines_have_one_answer, normal_forms_do_the_same,
+    normal_forms_overlap_the_same, overlaps_go_both_ways, snapshots_are_isolated, snapshots_stay,
     steps_keep_limits, steps_keep_states, steps_record_events,
 };
 pub use name::{NameFault, StoreName};
