@@ -33,3 +33,5 @@ pub mod ModeLemmas
 pub mod IsolationLemmas
 pub mod SourceLemmas
 pub mod TimelineRoots
+pub mod PassLemmas
+pub mod CoreGoes

@@ -104,8 +104,8 @@ three_rounds_are_four_runs : length (runs_of (1 ∷ 3 ∷ 4 ∷ 6 ∷ 7 ∷ 9 �
 three_rounds_are_four_runs = refl
 
 no_half_has_room_for_8184_runs : (taken : List ℕ) → length (runs_of taken) ≡ 8184
-    → batch_bytes (base_bytes taken (new_store 1 (codes "p") Plain 0 ∷ new_store 24549 (codes "s") Plain 0 ∷ [])) ≡ 65534
-no_half_has_room_for_8184_runs taken many i = 5 + (25 + 8 * many i + 32)
+    → batch_bytes (base_bytes taken (new_store 1 (codes "p") Plain 0 ∷ new_store 24549 (codes "s") Plain 0 ∷ []) []) ≡ 65534
+no_half_has_room_for_8184_runs taken many i = 5 + (25 + 8 * many i + 32 + 0)
 
 -- The same from the first round on, in halves of 100 bytes.
 abbrev round : MachineState → MachineState

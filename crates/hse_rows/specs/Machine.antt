@@ -48,7 +48,7 @@ loaded sizes base log manifest used_slots = record {
 
 -- the first state of a half: nothing taken, and no store
 abbrev pub new_manifest : ManifestState
-new_manifest = record { sequence = 1; used = head_bytes + batch_bytes (base_bytes [] []); taken = [] }
+new_manifest = record { sequence = 1; used = head_bytes + batch_bytes (base_bytes [] [] []); taken = [] }
 
 -- from a device that was just formatted
 abbrev pub formatted : Sizes → MachineState
@@ -122,7 +122,7 @@ taken_with m = m.manifest.taken ++ (number_of m + 1) ∷ []
 
 -- what the whole state with these stores needs after the next event
 abbrev pub base_need : MachineState → List Store → ℕ
-base_need m stores = batch_bytes (base_bytes (taken_with m) stores)
+base_need m stores = batch_bytes (base_bytes (taken_with m) stores [])
 
 -- the manifest with an entry of this need, after which these are the stores
 abbrev pub noted : MachineState → ℕ → List Store → ManifestState

@@ -2,6 +2,7 @@
 #![tactic(auto)]
 
 mod change;
+mod core_laws;
 mod edge;
 mod key;
 mod laws;
@@ -17,6 +18,7 @@ mod write;
 mod write_set;
 
 pub use change::{Change, ChangeRef};
+pub use core_laws::{others_keep_timelines, runs_are_isolated};
 pub use edge::Edge;
 pub use key::{Key, KeyFault};
 pub use laws::{

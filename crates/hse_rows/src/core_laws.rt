@@ -1,0 +1,19 @@
+//! Laws of the machine's core. Each function does nothing; its contract is the law.
+ghost use Rattle.hse_rows.specs.CoreLaws.{StepsMoveTimelines, RunsAreIsolated};
+ghost use Rattle.hse_rows.specs.CoreLaws.{CommitsAreNotCanceled};
+ghost use Rattle.hse_rows.specs.CoreLaws.{OthersKeepTimelines, OthersKeepCursors};
+
+/// Snapshot isolation. In every run no two transactions that each began before the other's commit
+/// both committed overlapping writes, and a commit is never canceled.
+pub fn runs_are_isolated()
+    ensures moves { StepsMoveTimelines }
+    ensures isolated { RunsAreIsolated }
+    ensures canceled { CommitsAreNotCanceled }
+{}
+
+/// The phases of a sync, a freeze and an install, picks and builds change no state, no transaction
+/// and no cursor.
+pub fn others_keep_timelines()
+    ensures timelines { OthersKeepTimelines }
+    ensures cursors { OthersKeepCursors }
+{}
