@@ -21,14 +21,14 @@ use Rattle.hse_rows.specs.CoreDone.{done, failing, refused_to, taking, picking, 
 use Rattle.hse_rows.specs.CoreStep.{Found, loads, breaks_off, has_version, Reopens, Step}
 use Rattle.hse_rows.specs.CoreLaws.{Entry, Run, ChangesTimeline, TakesEvent, ChangesCursors}
 use Rattle.hse_rows.specs.Isolation.{IsIsolated, AreIsolated}
-use Rattle.hse_rows.proofs.PassLemmas.{passes, change_passes, size_passes, not_canceled, found, found_transaction, is_there, is_plain, is_tx_store, has_store}
+use Rattle.hse_rows.proofs.PassLemmas.{passes, not_found, change_passes, size_passes, not_canceled, found, found_transaction, is_there, is_plain, is_tx_store, has_store}
 use Rattle.hse_rows.proofs.IsolationLemmas.{opened_isolated, goes_isolated, are_isolated}
 
 -- ---- what keeps timeline and cursors
 
-record Keeps (old new : Core) : Type 0 where
-  timeline : new.timeline ≡ old.timeline
-  cursors : new.cursors ≡ old.cursors
+pub record Keeps (old new : Core) : Type 0 where
+  pub timeline : new.timeline ≡ old.timeline
+  pub cursors : new.cursors ≡ old.cursors
 
 kept : (m : Core) → Keeps m m
 kept m = record { timeline = refl; cursors = refl }
@@ -88,7 +88,7 @@ taking_keeps_cursors m (install id) = for_some_cursors m (job_of m.jobs id) _ (�
 taking_keeps_cursors m (create name mode prefix) = refl
 taking_keeps_cursors m (drop name) = for_some_cursors m (store_named (now m) name) _ (λ store. refl)
 
-done_keeps : (m : Core) (call : Call) → (ChangesTimeline call → ⊥) → (done m call).timeline ≡ m.timeline
+pub done_keeps : (m : Core) (call : Call) → (ChangesTimeline call → ⊥) → (done m call).timeline ≡ m.timeline
 done_keeps m begin other = absurd (other tt)
 done_keeps m (write_by actor name change) other = absurd (other tt)
 done_keeps m (commit order) other = absurd (other tt)
@@ -108,7 +108,7 @@ done_keeps m next_job other = refl
 done_keeps m write_turn other = refl
 done_keeps m end_turn other = (ending_keeps m m.turn).timeline
 
-refused_keeps : (m : Core) (call : Call) → Keeps m (refused_to m call)
+pub refused_keeps : (m : Core) (call : Call) → Keeps m (refused_to m call)
 refused_keeps m end_turn = ending_failed_keeps m m.turn
 refused_keeps m call = kept m
 
@@ -174,10 +174,11 @@ module _ (m : Core) where
   taking_goes sync none = stays
   taking_goes freeze none = stays
   taking_goes (install id) none = at_rest (taking m (install id)) (taking_keeps m (install id) (λ e. e))
-  taking_goes (create name mode prefix) none = moves (move.create name mode prefix) tt
+  taking_goes (create name mode prefix) none =
+      moves (move.create name mode prefix) (not_found (store_named (now m) name) (passes (is_some (store_named (now m) name)) replies.store_exists _ none).0)
   taking_goes (drop name) none = drop_goes name none
 
-  done_goes : (call : Call) → refusal m call ≡ None → GoesTo (done m call)
+  pub done_goes : (call : Call) → refusal m call ≡ None → GoesTo (done m call)
   done_goes begin none = moves move.begin tt
   done_goes (write_by outside name change) none = outside_goes name change none
   done_goes (write_by (inside order) name change) none =

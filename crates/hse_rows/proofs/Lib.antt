@@ -35,3 +35,4 @@ pub mod SourceLemmas
 pub mod TimelineRoots
 pub mod PassLemmas
 pub mod CoreGoes
+pub mod StandLemmas

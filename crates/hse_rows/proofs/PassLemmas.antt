@@ -1,6 +1,6 @@
 -- What a table says that refuses nothing.
 use Rattle.std.specs.Prelude.{nat_lt, ◌==◌}
-use Rattle.std.proofs.Common.{◌≡◌, ℕ, suc, Bool, true, false, not, cond, List, [], ◌∷◌, length, ◌||◌, Option, Some, None, refl}
+use Rattle.std.proofs.Common.{◌≡◌, ℕ, suc, Bool, true, false, not, cond, List, [], ◌∷◌, length, ◌||◌, Option, Some, None, is_some, refl}
 use Rattle.std.specs.List.{slice_get, find}
 use Rattle.hse_rows.specs.declared.store.Mode.{Mode}
 use Rattle.hse_rows.specs.declared.store.Mode.TheVariants.{Plain, Tx}
@@ -61,6 +61,11 @@ not_busy_with (Some job) later none = absurd cc
 pub not_held : (transaction : Option Transaction) (later : Option (Refusal ℕ)) → unless_held transaction later ≡ None → (transaction ≡ None) × (later ≡ None)
 not_held None later none = (refl, none)
 not_held (Some transaction) later none = absurd cc
+
+-- what is not there
+pub not_found : {X : Type 0} (looked_up : Option X) → is_some looked_up ≡ false → looked_up ≡ None
+not_found None none = refl
+not_found (Some x) none = absurd cc
 
 -- what is looked up is there, and leads on
 pub found : {X : Type 0} (P : Core → Type 0) (looked_up : Option X) (reason : Refusal ℕ) (later : X → Option (Refusal ℕ)) (otherwise : Core) (leads_to : X → Core)

@@ -1,12 +1,16 @@
 -- Laws of the core, each the clause of a function of `src/core_laws.rt`.
 use Rattle.std.specs.Prelude.{◌≡◌, ℕ, List, [], ◌∷◌}
-use Rattle.hse_rows.specs.Timeline.{Goes}
-use Rattle.hse_rows.specs.Isolation.{AreIsolated}
+use Rattle.hse_rows.specs.State.{IsState}
+use Rattle.hse_rows.specs.Rooted.{AreRooted}
+use Rattle.hse_rows.specs.Timeline.{Timeline, Goes}
+use Rattle.hse_rows.specs.Timeline as timeline
+use Rattle.hse_rows.specs.Isolation.{IsIsolated, AreIsolated}
+use Rattle.hse_rows.specs.Sources.{IsSourced}
 use Rattle.hse_rows.specs.Turn.{TurnWish, sync, freeze, install, create, drop}
 use Rattle.hse_rows.specs.Replies.{Answer, refused, canceled_held, canceled_since}
 use Rattle.hse_rows.specs.Calls.{Call, begin, write_by, get, commit, abort, list_stores, tree, info, take_place, give_place, pick, build, drop_job, next_job, take, write_turn, end_turn, reopen}
 use Rattle.hse_rows.specs.Core.{Core, Stored, life}
-use Rattle.hse_rows.specs.CoreStep.{Found, Step}
+use Rattle.hse_rows.specs.CoreStep.{Found, loads, breaks_off, has_version, Step}
 
 -- ---- runs
 
@@ -104,3 +108,28 @@ abbrev pub OthersKeepCursors : Type 0
 OthersKeepCursors =
     (found : Found) (old new : Core) (call : Call) (answer : Answer ℕ)
     → Step found old call answer new → (ChangesCursors call → ⊥) → new.cursors ≡ old.cursors
+
+-- ---- what stands in every timeline
+
+pub record Stands (m : Timeline) : Type 0 where
+  -- in the base and now two names have two ids, and ids are numbers of events
+  pub base : IsState m.base
+  pub now : IsState (timeline.now m)
+  pub isolated : IsIsolated m
+  pub sourced : IsSourced m
+  -- each commit writes to stores that were created before it
+  pub rooted : AreRooted m.base.number m.history
+
+abbrev pub LoadsState : Found → Type 0
+LoadsState (loads stored) = IsState stored.base
+LoadsState (breaks_off part place) = Unit {0}
+LoadsState (has_version version) = Unit {0}
+
+-- It stands at the beginning of a life, and steps keep it.
+abbrev pub LivesStand : Type 0
+LivesStand = (stored : Stored) → IsState stored.base → Stands (life stored).timeline
+
+abbrev pub StepsKeepStanding : Type 0
+StepsKeepStanding =
+    (found : Found) (old new : Core) (call : Call) (answer : Answer ℕ)
+    → LoadsState found → Stands old.timeline → Step found old call answer new → Stands new.timeline

@@ -5,7 +5,7 @@ use Rattle.hse_rows.specs.declared.store.Mode.{Mode}
 use Rattle.hse_rows.specs.declared.store.Mode.TheVariants.{Plain, Tx}
 use Rattle.hse_rows.specs.declared.write.Write.{Write}
 use Rattle.hse_rows.specs.NormalForm.{normal_form}
-use Rattle.hse_rows.specs.State.{Store, State}
+use Rattle.hse_rows.specs.State.{Store, State, store_named}
 use Rattle.hse_rows.specs.History.{Event, commits, creates, drops, folded, fold, last_number}
 use Rattle.hse_rows.specs.Transaction.{active, committed, aborted, Transaction, begins, staged, ended}
 use Rattle.hse_rows.specs.Conflict.{conflict_of}
@@ -53,7 +53,7 @@ pub record IsActive (m : Timeline) (order : ℕ) (transaction : Transaction) : T
   pub going : transaction.state ≡ active
 
 -- A write in a transaction is of a `tx` store of its snapshot, and nothing cancels it. One outside is of a `plain` store.
--- Only an active transaction ends.
+-- Only an active transaction ends. A new store has a name that no live store has.
 abbrev pub Allows : Timeline → Move → Type 0
 Allows m begin = Unit {0}
 Allows m (write_in order write) =
@@ -63,7 +63,7 @@ Allows m (write_in order write) =
 Allows m (write_out write) = HasStore (now m) write.store.0 Plain
 Allows m (commit order) = (transaction : Transaction) × IsActive m order transaction
 Allows m (abort order) = (transaction : Transaction) × IsActive m order transaction
-Allows m (create name mode prefix_length) = Unit {0}
+Allows m (create name mode prefix_length) = store_named (now m) name ≡ None
 Allows m (remove id) = Unit {0}
 
 -- ---- where a move leads

@@ -2,6 +2,7 @@
 ghost use Rattle.hse_rows.specs.CoreLaws.{StepsMoveTimelines, RunsAreIsolated};
 ghost use Rattle.hse_rows.specs.CoreLaws.{CommitsAreNotCanceled};
 ghost use Rattle.hse_rows.specs.CoreLaws.{OthersKeepTimelines, OthersKeepCursors};
+ghost use Rattle.hse_rows.specs.CoreLaws.{LivesStand, StepsKeepStanding};
 
 /// Snapshot isolation. In every run no two transactions that each began before the other's commit
 /// both committed overlapping writes, and a commit is never canceled.
@@ -16,4 +17,12 @@ pub fn runs_are_isolated()
 pub fn others_keep_timelines()
     ensures timelines { OthersKeepTimelines }
     ensures cursors { OthersKeepCursors }
+{}
+
+/// In every timeline two stores have two names and two ids, ids are numbers of events, transactions
+/// are apart, and each commit is a transaction's or one write of a `plain` store and writes to stores
+/// that were created before it.
+pub fn timelines_stand()
+    ensures lives { LivesStand }
+    ensures steps { StepsKeepStanding }
 {}

@@ -18,7 +18,7 @@ mod write;
 mod write_set;
 
 pub use change::{Change, ChangeRef};
-pub use core_laws::{others_keep_timelines, runs_are_isolated};
+pub use core_laws::{others_keep_timelines, runs_are_isolated, timelines_stand};
 pub use edge::Edge;
 pub use key::{Key, KeyFault};
 pub use laws::{
