@@ -47,6 +47,12 @@ pub mod CoreReply
 pub mod CoreDone
 pub mod CoreStep
 pub mod CoreLaws
+pub mod ScriptLines
+pub mod Script
+pub mod ScriptNames
+pub mod ScriptRefusal
+pub mod ScriptDone
+pub mod ScriptStep
 pub mod Sets
 pub mod Covering
 pub mod Orderly
