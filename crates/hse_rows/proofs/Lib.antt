@@ -36,3 +36,4 @@ pub mod TimelineRoots
 pub mod PassLemmas
 pub mod CoreGoes
 pub mod StandLemmas
+pub mod RowCases

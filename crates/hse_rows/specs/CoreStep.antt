@@ -1,7 +1,7 @@
 -- The step of the core: what a call may be answered, and where that leads.
-use Rattle.std.specs.Prelude.{◌≡◌, ℕ, Some, None}
+use Rattle.std.specs.Prelude.{◌≡◌, ℕ, Option, Some, None}
 use Rattle.hse_rows.specs.Turn.{Calls}
-use Rattle.hse_rows.specs.Replies.{Part, busy, not_formed, other_version, Answer, ok, refused, no_memory, device_fault}
+use Rattle.hse_rows.specs.Replies.{Refusal, Part, busy, not_formed, other_version, Answer, ok, refused, no_memory, device_fault}
 use Rattle.hse_rows.specs.Calls.{Call, write_turn, reopen}
 use Rattle.hse_rows.specs.Core.{Core, Stored, life}
 use Rattle.hse_rows.specs.CoreRefusal.{refusal}
@@ -37,3 +37,34 @@ Step found old call device_fault new = ⊥
 Step found old call (refused reason) new = (refusal old call ≡ Some reason) × (new ≡ refused_to old call)
 -- what nothing refuses is answered and done
 Step found old call answer new = (refusal old call ≡ None) × (answer ≡ reply old call) × (new ≡ done old call)
+
+-- ---- the answer with memory enough and a device that does not fail, and where an answer leads
+
+abbrev pub opening_answer : Found → Answer ℕ
+opening_answer (loads stored) = ok stored.base.number
+opening_answer (breaks_off part place) = refused (not_formed part place)
+opening_answer (has_version version) = refused (other_version version)
+
+-- the refusal, or else the reply
+abbrev pub refused_or : Option (Refusal ℕ) → Answer ℕ → Answer ℕ
+refused_or None answer = answer
+refused_or (Some reason) answer = refused reason
+
+abbrev pub answer_of : Found → Core → Call → Answer ℕ
+answer_of found m reopen = refused_or (refusal m reopen) (opening_answer found)
+answer_of found m call = refused_or (refusal m call) (reply m call)
+
+-- what a reopening loads
+abbrev pub life_or : Found → Core → Core
+life_or (loads stored) old = life stored
+life_or (breaks_off part place) old = old
+life_or (has_version version) old = old
+
+abbrev pub led_to : Found → Core → Call → Answer ℕ → Core
+led_to found m call no_memory = m
+led_to found m reopen (ok number) = life_or found m
+led_to found m reopen device_fault = failing m reopen
+led_to found m reopen answer = m
+led_to found m write_turn device_fault = failing m write_turn
+led_to found m call (refused reason) = refused_to m call
+led_to found m call answer = done m call

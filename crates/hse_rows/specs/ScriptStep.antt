@@ -2,7 +2,7 @@
 use Rattle.std.specs.Prelude.{◌≡◌, ℕ, List, Option, Some, None}
 use Rattle.hse_rows.specs.Job.{JobWish}
 use Rattle.hse_rows.specs.Turn.{Calls, install}
-use Rattle.hse_rows.specs.Replies.{Answer, silence, ok, refused, busy, not_formed, other_version, no_memory, device_fault}
+use Rattle.hse_rows.specs.Replies.{Refusal, Answer, silence, ok, refused, busy, not_formed, other_version, no_memory, device_fault}
 use Rattle.hse_rows.specs.Calls as call
 use Rattle.hse_rows.specs.Core.{Core, life}
 use Rattle.hse_rows.specs.CoreDone as core
@@ -54,3 +54,36 @@ Step found old line device_fault new = MayFail old line × (refusal old line ≡
 Step found old line (refused reason) new = (refusal old line ≡ Some reason) × (new ≡ refused_to old line)
 -- what nothing refuses is answered and done
 Step found old line answer new = (refusal old line ≡ None) × (answer ≡ reply old line) × (new ≡ done old line)
+
+-- ---- the answer with memory enough and a device that does not fail, and where an answer leads
+
+abbrev pub opening_answer : Found → Answer (List ℕ)
+opening_answer (loads stored) = ok stored.base.number
+opening_answer (breaks_off part place) = refused (not_formed part place)
+opening_answer (has_version version) = refused (other_version version)
+
+-- the refusal, or else the reply
+abbrev pub refused_or : Option (Refusal (List ℕ)) → Answer (List ℕ) → Answer (List ℕ)
+refused_or None answer = answer
+refused_or (Some reason) answer = refused reason
+
+abbrev pub answer_of : Found → Script → Line → Answer (List ℕ)
+answer_of found s silent = silence
+answer_of found s reopen = refused_or (refusal s reopen) (opening_answer found)
+answer_of found s line = refused_or (refusal s line) (reply s line)
+
+-- what a reopening loads
+abbrev pub life_or : Found → Script → Script
+life_or (loads stored) old = begins_with (life stored)
+life_or (breaks_off part place) old = old
+life_or (has_version version) old = old
+
+abbrev pub led_to : Found → Script → Line → Answer (List ℕ) → Script
+led_to found s silent answer = s
+led_to found s line no_memory = s
+led_to found s reopen (ok number) = life_or found s
+led_to found s reopen device_fault = failing s reopen
+led_to found s reopen answer = s
+led_to found s line device_fault = failing s line
+led_to found s line (refused reason) = refused_to s line
+led_to found s line answer = done s line
