@@ -37,3 +37,4 @@ pub mod PassLemmas
 pub mod CoreGoes
 pub mod StandLemmas
 pub mod RowCases
+pub mod CoreAnswers

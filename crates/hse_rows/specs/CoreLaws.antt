@@ -1,5 +1,5 @@
 -- Laws of the core, each the clause of a function of `src/core_laws.rt`.
-use Rattle.std.specs.Prelude.{◌≡◌, ℕ, List, [], ◌∷◌}
+use Rattle.std.specs.Prelude.{◌≡◌, ◌≢◌, ℕ, List, [], ◌∷◌}
 use Rattle.hse_rows.specs.State.{IsState}
 use Rattle.hse_rows.specs.Rooted.{AreRooted}
 use Rattle.hse_rows.specs.Timeline.{Timeline, Goes}
@@ -7,10 +7,10 @@ use Rattle.hse_rows.specs.Timeline as timeline
 use Rattle.hse_rows.specs.Isolation.{IsIsolated, AreIsolated}
 use Rattle.hse_rows.specs.Sources.{IsSourced}
 use Rattle.hse_rows.specs.Turn.{TurnWish, sync, freeze, install, create, drop}
-use Rattle.hse_rows.specs.Replies.{Answer, refused, canceled_held, canceled_since}
+use Rattle.hse_rows.specs.Replies.{Refusal, Answer, refused, no_memory, device_fault, canceled_held, canceled_since}
 use Rattle.hse_rows.specs.Calls.{Call, begin, write_by, get, commit, abort, list_stores, tree, info, take_place, give_place, pick, build, drop_job, next_job, take, write_turn, end_turn, reopen}
 use Rattle.hse_rows.specs.Core.{Core, Stored, life}
-use Rattle.hse_rows.specs.CoreStep.{Found, loads, breaks_off, has_version, Step}
+use Rattle.hse_rows.specs.CoreStep.{Found, loads, breaks_off, has_version, Step, answer_of, led_to}
 
 -- ---- runs
 
@@ -133,3 +133,29 @@ abbrev pub StepsKeepStanding : Type 0
 StepsKeepStanding =
     (found : Found) (old new : Core) (call : Call) (answer : Answer ℕ)
     → LoadsState found → Stands old.timeline → Step found old call answer new → Stands new.timeline
+
+-- ---- answers
+
+-- An answer leads one way.
+abbrev pub AnswersLeadOneWay : Type 0
+AnswersLeadOneWay =
+    (found : Found) (old new : Core) (call : Call) (answer : Answer ℕ)
+    → Step found old call answer new → new ≡ led_to found old call answer
+
+-- A refusal changes nothing, but that an end gives a turn back whose device calls failed.
+abbrev pub RefusalsChangeNothing : Type 0
+RefusalsChangeNothing =
+    (found : Found) (old new : Core) (call : Call) (reason : Refusal ℕ)
+    → call ≢ end_turn → Step found old call (refused reason) new → new ≡ old
+
+-- But for want of memory and a device fault, a call has one answer.
+abbrev pub CallsHaveOneAnswer : Type 0
+CallsHaveOneAnswer =
+    (found : Found) (old new : Core) (call : Call) (answer : Answer ℕ)
+    → answer ≢ no_memory → answer ≢ device_fault → Step found old call answer new → answer ≡ answer_of found old call
+
+-- And that is an answer of the machine's.
+abbrev pub CallsAreAnswered : Type 0
+CallsAreAnswered =
+    (found : Found) (old : Core) (call : Call)
+    → Step found old call (answer_of found old call) (led_to found old call (answer_of found old call))

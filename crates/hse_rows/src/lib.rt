@@ -18,7 +18,10 @@ mod write;
 mod write_set;
 
 pub use change::{Change, ChangeRef};
-pub use core_laws::{others_keep_timelines, runs_are_isolated, timelines_stand};
+pub use core_laws::{
+    calls_have_one_answer, core_answers_lead_one_way, others_keep_timelines, runs_are_isolated,
+    timelines_stand,
+};
 pub use edge::Edge;
 pub use key::{Key, KeyFault};
 pub use laws::{
