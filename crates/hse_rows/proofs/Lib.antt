@@ -7,6 +7,7 @@ pub mod OverlapLemmas
 pub mod WriteLemmas
 pub mod WriteCases
 pub mod LimitCases
+pub mod SizeCases
 pub mod MachineCases
 pub mod ReopenCases
 pub mod RoomCases
@@ -26,3 +27,14 @@ pub mod LimitLemmas
 pub mod RootedLemmas
 pub mod StepRoots
 pub mod RecordLemmas
+pub mod PlaceLemmas
+pub mod ApartLemmas
+pub mod ModeLemmas
+pub mod IsolationLemmas
+pub mod SourceLemmas
+pub mod TimelineRoots
+pub mod PassLemmas
+pub mod CoreGoes
+pub mod StandLemmas
+pub mod RowCases
+pub mod CoreAnswers

@@ -12,8 +12,6 @@ use Rattle.hse_rows.specs.Lengths.{IsKeyLength, IsEdgeLength, IsPrefixLength, Fi
 use Rattle.hse_rows.specs.Names.{is_name_byte, IsName}
 use Rattle.hse_rows.specs.Refusals.{RefusesKey, RefusesEdge, RefusesValue, RefusesPrefix, RefusesName}
 use Rattle.hse_rows.specs.Change.{FitsLimits}
-use Rattle.hse_rows.specs.Laws.{HasLengthOf}
-use Rattle.hse_rows.specs.Change.{write_of}
 use Rattle.hse_rows.specs.Machine.{longest_value}
 use Rattle.hse_rows.proofs.MachineCases.{small}
 
@@ -45,11 +43,19 @@ a_prefix_has_32_bytes_at_most =
     let few : 32 ≤ 32 = omega arith in
     ((some, few), λ is. absurd (omega (arith, is.1)))
 
-a_prefix_has_its_store_s_length : FitsPrefix 2 2 × ¬ FitsPrefix 2 3
-a_prefix_has_its_store_s_length =
-    let some : 0 < 2 = omega arith in
-    let few : 2 ≤ 32 = omega arith in
-    (((some, few), refl), λ is. absurd (omega (arith, is.1)))
+-- 1 byte, and as many as the store's prefixes have at most
+a_prefix_may_be_as_long_as_its_store_s : FitsPrefix 2 1 × FitsPrefix 2 2 × ¬ FitsPrefix 2 3
+a_prefix_may_be_as_long_as_its_store_s =
+    let some : 0 < 1 = omega arith in
+    let few : 1 ≤ 32 = omega arith in
+    let short : 1 ≤ 2 = omega arith in
+    let both : 0 < 2 = omega arith in
+    let two : 2 ≤ 32 = omega arith in
+    let whole : 2 ≤ 2 = omega arith in
+    (((some, few), short), ((both, two), whole), λ is. absurd (omega (arith, is.1)))
+
+a_store_s_prefixes_have_32_bytes_at_most : ¬ FitsPrefix 40 33
+a_store_s_prefixes_have_32_bytes_at_most is = absurd (omega (arith, is.0.1))
 
 a_store_without_prefixes_takes_none : ¬ FitsPrefix 0 0
 a_store_without_prefixes_takes_none is = absurd (omega (arith, is.0.0))
@@ -68,15 +74,6 @@ a_prefix_delete_has_a_prefix =
     let some : 0 < 2 = omega arith in
     let few : 2 ≤ 32 = omega arith in
     ((some, few), λ is. absurd (omega (arith, is.0)))
-
--- stores 1 and 2 with prefixes of 1 and 2 bytes
-a_write_s_prefix_is_its_store_s :
-    HasLengthOf (λ id. id) (write_of (record { 0 = 2 }) (PDel (codes "ab")))
-    × ¬ HasLengthOf (λ id. id) (write_of (record { 0 = 1 }) (PDel (codes "ab")))
-a_write_s_prefix_is_its_store_s = (refl, λ is. absurd (omega (arith, is)))
-
-a_write_of_a_key_fits_any : HasLengthOf (λ id. id) (write_of (record { 0 = 1 }) (Del (codes "ab")))
-a_write_of_a_key_fits_any = tt
 
 a_value_leaves_64_bytes_of_a_slot : longest_value small ≡ 65472
 a_value_leaves_64_bytes_of_a_slot = refl
@@ -144,11 +141,11 @@ a_value_above_its_most_is_refused =
 one_of_its_most_is_not : ¬ RefusesValue 65472 65472 (value.Length 65472)
 one_of_its_most_is_not refuses = absurd (omega (arith, refuses.1))
 
-a_prefix_of_another_length_is_refused : RefusesPrefix 2 3 (prefix.Length 3)
-a_prefix_of_another_length_is_refused = (refl, a_prefix_has_its_store_s_length.1)
+a_prefix_longer_than_its_store_s_is_refused : RefusesPrefix 2 3 (prefix.Length 3)
+a_prefix_longer_than_its_store_s_is_refused = (refl, a_prefix_may_be_as_long_as_its_store_s.2)
 
-one_of_its_store_s_length_is_not : ¬ RefusesPrefix 2 2 (prefix.Length 2)
-one_of_its_store_s_length_is_not refuses = refuses.1 a_prefix_has_its_store_s_length.0
+a_shorter_one_is_not : ¬ RefusesPrefix 2 1 (prefix.Length 1)
+a_shorter_one_is_not refuses = refuses.1 a_prefix_may_be_as_long_as_its_store_s.0
 
 every_prefix_is_refused_where_none_is_allowed : RefusesPrefix 0 0 (prefix.Length 0)
 every_prefix_is_refused_where_none_is_allowed = (refl, a_store_without_prefixes_takes_none)

@@ -18,7 +18,7 @@ use Rattle.hse_rows.specs.ManifestRoom.{goes_into_no_half, ManifestState, batch_
 use Rattle.hse_rows.specs.Lines.{outside, Line, create_store, drop_store, list_stores, put, del, get, sync, info, reopen, silent, bad}
 use Rattle.hse_rows.specs.Answers as answers
 use Rattle.hse_rows.specs.Answers.{Answer, Refusal}
-use Rattle.hse_rows.specs.Machine.{MachineState, IsWithinLimits, now, number_of, failed, for_store, write_to, created, dropped, committed, with_event, stores_with, stores_but, base_need, noted, most_stores}
+use Rattle.hse_rows.specs.Machine.{MachineState, IsWithinLimits, now, number_of, failed, for_store, write_to, created, dropped, committed, with_event, stores_with, stores_but, base_need, noted}
 use Rattle.hse_rows.specs.FirstRefusal.{refusal, refuse, is_tx, is_spent, key_refusal, value_refusal, commit_refusal, manifest_refusal}
 use Rattle.hse_rows.specs.Step.{Found, loads, breaks_off, has_version, Reopens, Step, done, failing}
 use Rattle.hse_rows.specs.Laws.{LoadsWithinLimits}
@@ -114,7 +114,7 @@ logged_within m writes good passed =
     let next = number_pushed m (commits (normal_form writes)) in
     let kept : length (now (committed m writes)).stores ≡ length (now m).stores =
     now_pushed m (commits (normal_form writes)) ∙ stores_committed (now m) (normal_form writes) in
-    let few : length (now m).stores ≤ 256 = good.stores in
+    let few : length (now m).stores ≤ m.sizes.most_stores = good.stores in
     record {
       room = omega (arith, after, small, before);
       numbers = omega (arith, next, low);
@@ -154,7 +154,7 @@ noted_within m need stores good passed =
     (record { used = good.half; sequence = good.sequences }) (passes (goes_into_no_half m.sizes.half_size m.manifest need (base_need m stores)) _ None passed).0
 
 -- an event that needs a number and takes no log
-event_within : (m : MachineState) (event : Event) → IsWithinLimits m → is_spent m ≡ false → length (now (with_event m event)).stores ≤ 256
+event_within : (m : MachineState) (event : Event) → IsWithinLimits m → is_spent m ≡ false → length (now (with_event m event)).stores ≤ m.sizes.most_stores
     → IsWithinLimits (with_event m event)
 event_within m event good unspent few =
     let low : number_of m < 2 ^ 62 = below (2 ^ 62) (number_of m) unspent in
@@ -167,16 +167,16 @@ event_within m event good unspent few =
       sequences = good.sequences;
     }
 
-created_few : (m : MachineState) (name : List ℕ) (mode : Mode) (prefix : ℕ) → nat_le 256 (length (now m).stores) ≡ false
-    → length (now (with_event m (creates name mode prefix))).stores ≤ 256
+created_few : (m : MachineState) (name : List ℕ) (mode : Mode) (prefix : ℕ) → nat_le m.sizes.most_stores (length (now m).stores) ≡ false
+    → length (now (with_event m (creates name mode prefix))).stores ≤ m.sizes.most_stores
 created_few m name mode prefix room =
-    let few : length (now m).stores < 256 = below 256 (length (now m).stores) room in
+    let few : length (now m).stores < m.sizes.most_stores = below m.sizes.most_stores (length (now m).stores) room in
     let after : length (now (with_event m (creates name mode prefix))).stores
     ≡ length ((now m).stores ++ new_store ((now m).number + 1) name mode prefix ∷ []) =
     now_pushed m (creates name mode prefix) in
     omega (arith, after, few, length-append (now m).stores (new_store ((now m).number + 1) name mode prefix ∷ []))
 
-dropped_few : (m : MachineState) (id : ℕ) → length (now m).stores ≤ 256 → length (now (with_event m (drops id))).stores ≤ 256
+dropped_few : (m : MachineState) (id : ℕ) → length (now m).stores ≤ m.sizes.most_stores → length (now (with_event m (drops id))).stores ≤ m.sizes.most_stores
 dropped_few m id few =
     let after : length (now (with_event m (drops id))).stores ≡ length (happened (now m) (drops id)).stores = now_pushed m (drops id) in
     let less : length (happened (now m) (drops id)).stores ≤ length (now m).stores = stores_dropped (now m) id in
@@ -193,7 +193,7 @@ create_passed m name mode prefix good passed =
     let first = passes (is_some (store_named (now m) name)) answers.store_exists _ passed in
     let second = passes _ (answers.prefix_length prefix) _ first.1 in
     let third = passes m.is_broken answers.broken _ second.1 in
-    let fourth = passes (nat_le most_stores (length (now m).stores)) (answers.too_many most_stores) _ third.1 in
+    let fourth = passes (nat_le m.sizes.most_stores (length (now m).stores)) (answers.too_many m.sizes.most_stores) _ third.1 in
     let fifth = passes (is_spent m) answers.spent _ fourth.1 in
     record {
       within = event_within m (creates name mode prefix) good fifth.0 (created_few m name mode prefix fourth.0);

@@ -1,21 +1,21 @@
 -- Small cases of the machine, worked by hand. Contents do not compute: what a key holds is read by the laws.
-use Rattle.std.proofs.Common.{◌≡◌, ℕ, ◌+◌, ◌*◌, ◌==◌, ◌||◌, nat_lt, List, [], ◌∷◌, length, Some, None, refl, ap}
+use Rattle.std.proofs.Common.{◌≡◌, ℕ, ◌+◌, ◌==◌, ◌||◌, nat_lt, List, [], ◌∷◌, length, Some, None, refl, ap}
 use Rattle.std.specs.Prelude.{codes}
 use Rattle.hse_rows.specs.declared.store.Mode.TheVariants.{Plain, Tx}
 use Rattle.hse_rows.specs.declared.change.Change.TheVariants.{Put}
 use Rattle.hse_rows.specs.NormalForm.{normal_form}
 use Rattle.hse_rows.specs.Charge.{charge_of}
-use Rattle.hse_rows.specs.State.{Store}
-use Rattle.hse_rows.specs.ManifestRoom.{batch_bytes, base_bytes, gained}
+use Rattle.hse_rows.specs.Sizes.{Sizes}
+use Rattle.hse_rows.specs.ManifestRoom.{gained}
 use Rattle.hse_rows.specs.Lines.{outside, Line, create_store, drop_store, list_stores, put, get, sync, info, bad}
 use Rattle.hse_rows.specs.Answers.{bad_line, store_exists, no_store, store_mode, key_length, value_length, prefix_length, broken, log_full, txn_size, ok, listed, figures}
-use Rattle.hse_rows.specs.Machine.{MachineState, Sizes, formatted, number_of, whole_room, left_room, longest_key, longest_value}
+use Rattle.hse_rows.specs.Machine.{MachineState, formatted, number_of, whole_room, left_room, longest_key, longest_value}
 use Rattle.hse_rows.specs.FirstRefusal.{refusal, refuse, key_refusal, value_refusal, log_refusal}
 use Rattle.hse_rows.specs.Step.{reply, done, failing}
 
 -- 64 slots of 65,536 bytes, halves of 65,536 and segments of 262,144
 abbrev pub small : Sizes
-small = record { slot_size = 65536; slots = 64; half_size = 65536; segment_size = 262144 }
+small = record { slot_size = 65536; slots = 64; half_size = 65536; segment_size = 262144; most_stores = 256 }
 
 abbrev pub fresh : MachineState
 fresh = formatted small
@@ -105,11 +105,6 @@ a_creation_takes_18_bytes = refl
 
 a_drop_takes_22_bytes : (done one_store (drop_store (codes "s"))).manifest.used ≡ 80
 a_drop_takes_22_bytes = refl
-
--- 8,187 taken numbers and the store s
-too_many_numbers_for_a_half : (taken : List ℕ) (store : Store) → length taken ≡ 8187 → length store.name ≡ 1
-    → batch_bytes (base_bytes taken (store ∷ [])) ≡ 65542
-too_many_numbers_for_a_half taken store many one i = 5 + (25 + 8 * many i + (0 + (15 + one i)))
 
 -- with 16 bytes left a creation starts the other half
 a_full_half_rolls :

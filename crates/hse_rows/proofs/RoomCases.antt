@@ -1,5 +1,5 @@
 -- Small cases of the machine's limits: stores, numbers and the manifest's room, worked by hand.
-use Rattle.std.proofs.Common.{◌≡◌, ℕ, ◌+◌, ◌-◌, ◌*◌, ◌/◌, ◌%◌, ◌≤◌, [], ◌∷◌, map, Some, None, refl, arith}
+use Rattle.std.proofs.Common.{◌≡◌, ℕ, ◌+◌, ◌-◌, ◌*◌, ◌/◌, ◌%◌, ◌≤◌, List, [], ◌∷◌, length, map, Some, None, refl, arith}
 use Rattle.std.specs.Prelude.{codes}
 use Rattle.std.specs.List.{range_with_len}
 use Rattle.hse_rows.specs.declared.store.Mode.TheVariants.{Plain, Tx}
@@ -7,8 +7,10 @@ use Rattle.hse_rows.specs.NormalForm.{normal_form}
 use Rattle.hse_rows.specs.State.{Store}
 use Rattle.hse_rows.specs.History.{new_store}
 use Rattle.hse_rows.specs.Log.{new_log}
-use Rattle.hse_rows.specs.Lines.{outside, Line, create_store, drop_store, list_stores, del, get, sync, info}
-use Rattle.hse_rows.specs.Answers.{store_exists, broken, too_many, spent, manifest_full, txn_size, log_full, ok, listed, figures}
+use Rattle.hse_rows.specs.TakenRuns.{runs_of}
+use Rattle.hse_rows.specs.ManifestRoom.{batch_bytes, base_bytes}
+use Rattle.hse_rows.specs.Lines.{outside, Line, create_store, drop_store, del, get, sync, info}
+use Rattle.hse_rows.specs.Answers.{store_exists, broken, too_many, spent, manifest_full, txn_size, log_full, ok, figures}
 use Rattle.hse_rows.specs.Machine.{MachineState, IsWithinLimits, formatted, loaded, failed, new_manifest}
 use Rattle.hse_rows.specs.FirstRefusal.{refusal}
 use Rattle.hse_rows.specs.Step.{loads, reply, done}
@@ -54,6 +56,13 @@ the_count_is_refused_before_the_number : refusal (with_stores 256 46116860184273
 unfolding with_stores
 the_count_is_refused_before_the_number = refl
 
+-- the limit is the device's
+a_device_of_one_store_takes_one :
+    map (λ stores. refusal (record stores { sizes = record small { most_stores = 1 } }) creation) (with_stores 0 0 ∷ with_stores 1 1 ∷ [])
+    ≡ None ∷ Some (too_many 1) ∷ []
+unfolding with_stores
+a_device_of_one_store_takes_one = refl
+
 -- ---- numbers
 
 -- a store s, at this number
@@ -89,27 +98,14 @@ a_broken_engine_is_refused_before_the_number = refl
 
 -- ---- the manifest
 
--- after 4,093 rounds of a creation and a drop
-after_all_rounds : MachineState
-after_all_rounds =
-    loaded small (record { number = 8186; stores = [] }) new_log
-    (record { sequence = 18; used = 65528; taken = range_with_len 1 8186 }) 0
+-- A store p, and rounds of a put to it and of a creation and a drop of s, whose numbers are a run each. 8,182 rounds make
+-- 8,183 runs, and the next creation one more.
+three_rounds_are_four_runs : length (runs_of (1 ∷ 3 ∷ 4 ∷ 6 ∷ 7 ∷ 9 ∷ 10 ∷ [])) ≡ 4
+three_rounds_are_four_runs = refl
 
-no_half_takes_the_next_creation :
-    refusal after_all_rounds (create_store (codes "s") Plain 0)
-    ≡ Some (manifest_full 65542 65526)
-unfolding after_all_rounds
-no_half_takes_the_next_creation = refl
-
-they_leave_no_store : reply after_all_rounds list_stores ≡ listed []
-unfolding after_all_rounds
-they_leave_no_store = refl
-
-they_leave_the_18th_half :
-    reply after_all_rounds info
-    ≡ figures (record { number = 8186; frozen = 0; charge = 0; free = 64; manifest = 18 })
-unfolding after_all_rounds
-they_leave_the_18th_half = refl
+no_half_has_room_for_8184_runs : (taken : List ℕ) → length (runs_of taken) ≡ 8184
+    → batch_bytes (base_bytes taken (new_store 1 (codes "p") Plain 0 ∷ new_store 24549 (codes "s") Plain 0 ∷ []) []) ≡ 65534
+no_half_has_room_for_8184_runs taken many i = 5 + (25 + 8 * many i + 32 + 0)
 
 -- The same from the first round on, in halves of 100 bytes.
 abbrev round : MachineState → MachineState
@@ -123,18 +119,30 @@ a_round_takes_40_bytes = refl
 
 the_second_round_starts_a_half :
     (round (round tiny)).manifest
-    ≡ record { sequence = 2; used = 72; taken = 1 ∷ 2 ∷ 3 ∷ 4 ∷ [] }
+    ≡ record { sequence = 2; used = 48; taken = 1 ∷ 2 ∷ 3 ∷ 4 ∷ [] }
 the_second_round_starts_a_half = refl
 
-the_third_starts_another :
+the_third_has_room_in_it :
     (round (round (round tiny))).manifest
-    ≡ record { sequence = 3; used = 88; taken = 1 ∷ 2 ∷ 3 ∷ 4 ∷ 5 ∷ 6 ∷ [] }
-the_third_starts_another = refl
+    ≡ record { sequence = 2; used = 88; taken = 1 ∷ 2 ∷ 3 ∷ 4 ∷ 5 ∷ 6 ∷ [] }
+the_third_has_room_in_it = refl
 
-the_fourth_is_refused :
-    refusal (round (round (round tiny))) (create_store (codes "s") Plain 0)
-    ≡ Some (manifest_full 102 90)
-the_fourth_is_refused = refl
+the_fourth_starts_another :
+    (round (round (round (round tiny)))).manifest
+    ≡ record { sequence = 3; used = 86; taken = 1 ∷ 2 ∷ 3 ∷ 4 ∷ 5 ∷ 6 ∷ 7 ∷ 8 ∷ [] }
+the_fourth_starts_another = refl
+
+-- with puts between them the numbers are three runs, and a half of 70 bytes has no room for four
+a_fourth_run_is_refused :
+    refusal
+    (record fresh {
+      sizes = record small { half_size = 70 };
+      manifest = record { sequence = 1; used = 70; taken = 1 ∷ 3 ∷ 5 ∷ [] };
+      base = record { number = 6; stores = [] };
+    })
+    (create_store (codes "s") Plain 0)
+    ≡ Some (manifest_full 78 60)
+a_fourth_run_is_refused = refl
 
 -- a half that has this much used
 abbrev with_half : ℕ → ℕ → MachineState

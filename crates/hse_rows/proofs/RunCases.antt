@@ -1,11 +1,11 @@
 -- Small cases of compactions and spills: runs beside other sets, their blocks, and the order of nodes, worked by hand.
 use Rattle.std.proofs.Common.{◌≡◌, ℕ, true, false, List, [], ◌∷◌, refl}
-use Rattle.std.specs.Prelude.{codes}
+use Rattle.std.specs.Prelude.{codes, map}
 use Rattle.hse_rows.specs.declared.change.Change.{Change}
 use Rattle.hse_rows.specs.declared.change.Change.TheVariants.{Put, Del, PDel}
 use Rattle.hse_rows.specs.declared.row.Row.{Row}
 use Rattle.hse_rows.specs.Newest.{newest}
-use Rattle.hse_rows.specs.Layout.{RowsInBlocks, Node, Layout, sets_at, with_sets, compacted, keys_compacted, spilled, has_children, is_last}
+use Rattle.hse_rows.specs.Layout.{RowsInBlocks, Node, Layout, sets_at, with_sets, compacted, keys_compacted, children, spilled, has_children, is_last}
 
 abbrev numbered : ℕ → Change → Row
 numbered number change = record { number = number; change = change }
@@ -153,6 +153,38 @@ a_spill_keeps_deletions :
     ≡ record { store = 1; path = 2 ∷ []; sets = of_deletions ∷ [] } ∷ []
 unfolding newest
 a_spill_keeps_deletions = refl
+
+-- in a store whose prefixes have 2 bytes at most, one of 1 byte goes to each child
+abbrev of_a_short_prefix : RowsInBlocks
+of_a_short_prefix = in_blocks 1 0 0 (numbered 3 (PDel (codes "a")) ∷ [])
+
+abbrev child_with : List RowsInBlocks → ℕ → Node
+child_with sets child = record { store = 1; path = child ∷ []; sets = sets }
+
+a_short_prefix_goes_to_each_child :
+    spilled 65536 (at_root (of_a_short_prefix ∷ [])) 1 [] 2 1 ≡ map (child_with (of_a_short_prefix ∷ [])) children
+unfolding newest
+a_short_prefix_goes_to_each_child = refl
+
+-- and stands in front of what a child has: aa goes to child 0
+abbrev of_aa : RowsInBlocks
+of_aa = in_blocks 0 1 1 (numbered 2 (Put (codes "aa") (codes "1")) ∷ [])
+
+it_stands_before_what_a_child_has :
+    sets_at (spilled 65536 (record { store = 1; path = []; sets = of_a_short_prefix ∷ [] } ∷ child_with (of_aa ∷ []) 0 ∷ []) 1 [] 2 1) 1
+    (0 ∷ [])
+    ≡ of_a_short_prefix ∷ of_aa ∷ []
+unfolding newest
+it_stands_before_what_a_child_has = refl
+
+-- with a newer row of a key of the child it is one set
+a_child_s_rows_are_one_set :
+    sets_at
+    (spilled 65536 (at_root (in_blocks 0 1 1 (numbered 4 (Put (codes "aa") (codes "1")) ∷ []) ∷ of_a_short_prefix ∷ [])) 1 [] 2 2) 1
+    (0 ∷ [])
+    ≡ in_blocks 1 1 1 (numbered 3 (PDel (codes "a")) ∷ numbered 4 (Put (codes "aa") (codes "1")) ∷ []) ∷ []
+unfolding newest
+a_child_s_rows_are_one_set = refl
 
 -- ---- the order of nodes: by store, and by path
 

@@ -107,25 +107,28 @@ IsFree state (creates name mode prefix_length) = list_any (λ other. same other.
 IsFree state (commits writes) = Unit {0}
 IsFree state (drops id) = Unit {0}
 
-pub happened_state : (state : State) (event : Event) → IsFree state event → IsState state → IsState (happened state event)
-happened_state state (commits writes) free good =
+pub happened_rising : (state : State) (event : Event) → AreRising 0 state.number state.stores → AreRising 0 (happened state event).number (happened state event).stores
+happened_rising state (commits writes) rising =
     let stores : (applied_all state writes).stores ≡ map (written_all writes) state.stores = λ i. (applied_all-stores state writes i).stores in
-    record {
-      rising = subst (λ (s : List Store). AreRising 0 (state.number + 1) s) (sym stores)
-          (rising_longer 0 state.number (map (written_all writes) state.stores) (rising_written writes 0 state.number state.stores good.rising));
-      named = subst AreNamedApart (sym stores) (apart_written writes state.stores good.named);
-    }
-happened_state state (creates name mode prefix_length) free good =
+    subst (λ (s : List Store). AreRising 0 (state.number + 1) s) (sym stores)
+    (rising_longer 0 state.number (map (written_all writes) state.stores) (rising_written writes 0 state.number state.stores rising))
+happened_rising state (creates name mode prefix_length) rising =
     let zero_below : 0 ≤ state.number = omega arith in
-    record {
-      rising = rising_push 0 state.number state.stores (new_store (state.number + 1) name mode prefix_length) zero_below refl good.rising;
-      named = apart_push state.stores (new_store (state.number + 1) name mode prefix_length) free good.named;
-    }
-happened_state state (drops id) free good =
-    record {
-      rising = rising_longer 0 state.number (without id state.stores) (rising_without id 0 state.number state.stores good.rising);
-      named = apart_without id state.stores good.named;
-    }
+    rising_push 0 state.number state.stores (new_store (state.number + 1) name mode prefix_length) zero_below refl rising
+happened_rising state (drops id) rising =
+    rising_longer 0 state.number (without id state.stores) (rising_without id 0 state.number state.stores rising)
+
+happened_apart : (state : State) (event : Event) → IsFree state event → AreNamedApart state.stores → AreNamedApart (happened state event).stores
+happened_apart state (commits writes) free apart =
+    let stores : (applied_all state writes).stores ≡ map (written_all writes) state.stores = λ i. (applied_all-stores state writes i).stores in
+    subst AreNamedApart (sym stores) (apart_written writes state.stores apart)
+happened_apart state (creates name mode prefix_length) free apart =
+    apart_push state.stores (new_store (state.number + 1) name mode prefix_length) free apart
+happened_apart state (drops id) free apart = apart_without id state.stores apart
+
+pub happened_state : (state : State) (event : Event) → IsFree state event → IsState state → IsState (happened state event)
+happened_state state event free good =
+    record { rising = happened_rising state event good.rising; named = happened_apart state event free good.named }
 
 pub pushed_state : (base : State) (events : List Event) (event : Event) → IsFree (folded base events) event → IsState (folded base events)
     → IsState (folded base (events ++ event ∷ []))

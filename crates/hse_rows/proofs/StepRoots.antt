@@ -15,7 +15,7 @@ use Rattle.hse_rows.specs.Machine.{MachineState, now, number_of, failed, for_sto
 use Rattle.hse_rows.specs.Step.{Found, loads, breaks_off, has_version, Reopens, Step, done, failing}
 use Rattle.hse_rows.specs.Laws.{IsRooted, LoadsRooted}
 
-rooted_push : (number : ℕ) (events : List Event) (event : Event) → AreRooted number events → AreUpTo (number + length events) (writes_in event)
+pub rooted_push : (number : ℕ) (events : List Event) (event : Event) → AreRooted number events → AreUpTo (number + length events) (writes_in event)
     → AreRooted number (events ++ event ∷ [])
 rooted_push number [] event rooted up_to =
     let here : number + length {A = Event} [] ≡ number = omega arith in

@@ -13,7 +13,7 @@ use Rattle.hse_rows.specs.Change.{write_of}
 use Rattle.hse_rows.specs.State.{State, store_of}
 use Rattle.hse_rows.specs.Holding.{get-contents_after_all}
 use Rattle.hse_rows.specs.History.{Event, commits, creates, drops}
-use Rattle.hse_rows.specs.Transaction.{Transaction, begins, staged, ended, committed, aborted, named, read_of}
+use Rattle.hse_rows.specs.Transaction.{Transaction, begins, staged, ended, committed, aborted, read_of}
 use Rattle.hse_rows.specs.Machine.{for_store}
 use Rattle.hse_rows.specs.Conflict.{held, since, conflict_of}
 
@@ -28,15 +28,15 @@ abbrev begun_history : List Event
 begun_history = creates (codes "acct") Tx 0 ∷ []
 
 abbrev a : Transaction
-a = staged (begins 1 (codes "a") 1) (of (Put (codes "k") (codes "1")))
+a = staged (begins 1 1) (of (Put (codes "k") (codes "1")))
 
 abbrev b : Transaction
-b = begins 2 (codes "b") 1
+b = begins 2 1
 
 abbrev b_put : Write
 b_put = of (Put (codes "k") (codes "2"))
 
-the_first_writer_holds_the_key : conflict_of nothing begun_history (a ∷ b ∷ []) b b_put ≡ Some (held a)
+the_first_writer_holds_the_key : conflict_of nothing begun_history (a ∷ b ∷ []) b b_put ≡ Some (held 1)
 the_first_writer_holds_the_key = refl
 
 no_transaction_holds_its_own_key : conflict_of nothing begun_history (a ∷ b ∷ []) a b_put ≡ None
@@ -47,29 +47,24 @@ another_key_is_free = refl
 
 a_commit_since_the_snapshot_counts :
     conflict_of nothing (creates (codes "acct") Tx 0 ∷ commits (of (Put (codes "k") (codes "1")) ∷ []) ∷ [])
-    (ended a committed ∷ b ∷ []) b b_put ≡ Some (since 2)
+    (ended a (committed 2) ∷ b ∷ []) b b_put ≡ Some (since 2)
 a_commit_since_the_snapshot_counts = refl
 
 a_commit_before_the_snapshot_does_not_count :
     conflict_of nothing (creates (codes "acct") Tx 0 ∷ commits (of (Put (codes "k") (codes "1")) ∷ []) ∷ [])
-    (begins 3 (codes "c") 2 ∷ []) (begins 3 (codes "c") 2) b_put ≡ None
+    (begins 3 2 ∷ []) (begins 3 2) b_put ≡ None
 a_commit_before_the_snapshot_does_not_count = refl
-
-a_name_is_the_last_one_s :
-    named (ended a committed ∷ begins 2 (codes "a") 2 ∷ []) (codes "a")
-    ≡ Some (begins 2 (codes "a") 2)
-a_name_is_the_last_one_s = refl
 
 an_aborted_one_holds_nothing : conflict_of nothing begun_history (ended a aborted ∷ b ∷ []) b b_put ≡ None
 an_aborted_one_holds_nothing = refl
 
 -- two hold the key
 abbrev c : Transaction
-c = begins 3 (codes "c") 1
+c = begins 3 1
 
 the_first_begun_is_told :
     conflict_of nothing begun_history (a ∷ staged b b_put ∷ c ∷ []) c b_put
-    ≡ Some (held a)
+    ≡ Some (held 1)
 the_first_begun_is_told = refl
 
 -- a commit of number 4, behind a creation and a drop, and one of number 5
@@ -82,17 +77,17 @@ longer_history =
 the_least_number_is_told : conflict_of nothing longer_history (b ∷ []) b b_put ≡ Some (since 4)
 the_least_number_is_told = refl
 
-a_holder_is_told_before_a_commit : conflict_of nothing longer_history (a ∷ b ∷ []) b b_put ≡ Some (held a)
+a_holder_is_told_before_a_commit : conflict_of nothing longer_history (a ∷ b ∷ []) b b_put ≡ Some (held 1)
 a_holder_is_told_before_a_commit = refl
 
 -- ---- prefix deletes: `a` put abc
 
 abbrev holds_abc : Transaction
-holds_abc = staged (begins 1 (codes "a") 1) (of (Put (codes "abc") (codes "1")))
+holds_abc = staged (begins 1 1) (of (Put (codes "abc") (codes "1")))
 
 a_prefix_delete_of_it_is_held :
     conflict_of nothing begun_history (holds_abc ∷ b ∷ []) b (of (PDel (codes "ab")))
-    ≡ Some (held holds_abc)
+    ≡ Some (held 1)
 a_prefix_delete_of_it_is_held = refl
 
 a_shorter_key_is_free :
@@ -106,7 +101,7 @@ holds_prefix = staged holds_abc (of (PDel (codes "ab")))
 
 another_key_of_the_prefix_is_held :
     conflict_of nothing begun_history (holds_prefix ∷ b ∷ []) b (of (Put (codes "abd") (codes "1")))
-    ≡ Some (held holds_prefix)
+    ≡ Some (held 1)
 another_key_of_the_prefix_is_held = refl
 
 -- ---- what a transaction reads: its snapshot with its own writes
@@ -119,13 +114,13 @@ read_history =
 
 -- it put m and removed k
 abbrev reader : Transaction
-reader = staged (staged (begins 1 (codes "r") 2) (of (Put (codes "m") (codes "5")))) (of (Del (codes "k")))
+reader = staged (staged (begins 1 2) (of (Put (codes "m") (codes "5")))) (of (Del (codes "k")))
 
 abbrev reads : Transaction → List ℕ → Option (List ℕ)
 reads transaction key =
     for_store (store_of (read_of nothing read_history transaction) 1) None (λ store. fin_map.get store.contents key)
 
-it_reads_its_snapshot : reads (begins 1 (codes "r") 2) (codes "k") ≡ Some (codes "1")
+it_reads_its_snapshot : reads (begins 1 2) (codes "k") ≡ Some (codes "1")
 it_reads_its_snapshot = get-contents_after_all 1 fin_map.empty (of (Put (codes "k") (codes "1")) ∷ []) (codes "k")
 
 it_reads_its_own_put : reads reader (codes "m") ≡ Some (codes "5")

@@ -75,12 +75,12 @@ one_prefix_overlaps = refl
 two_prefixes_do_not : overlaps (of 1 (PDel (codes "ab"))) (of 1 (PDel (codes "ac"))) ≡ false
 two_prefixes_do_not = refl
 
--- nor do two of which one begins with the other
-a_longer_prefix_is_another : overlaps (of 1 (PDel (codes "a"))) (of 1 (PDel (codes "ab"))) ≡ false
-a_longer_prefix_is_another = refl
+-- but two of which one begins with the other
+a_prefix_overlaps_a_longer_one : overlaps (of 1 (PDel (codes "a"))) (of 1 (PDel (codes "ab"))) ≡ true
+a_prefix_overlaps_a_longer_one = refl
 
-a_shorter_prefix_is_another : overlaps (of 1 (PDel (codes "ab"))) (of 1 (PDel (codes "a"))) ≡ false
-a_shorter_prefix_is_another = refl
+and_a_shorter_one : overlaps (of 1 (PDel (codes "ab"))) (of 1 (PDel (codes "a"))) ≡ true
+and_a_shorter_one = refl
 
 -- ---- normal forms
 
@@ -241,7 +241,7 @@ a_write_may_overlap_one_of_many = refl
 or_none_of_them : overlaps_some (of 1 (Del (codes "c"))) three ≡ false
 or_none_of_them = refl
 
--- ---- where the prefixes of a store have two lengths, a normal form may overlap less
+-- ---- a normal form overlaps what its writes overlap, also where a shorter prefix hides what overlaps
 
 abbrev of_two_lengths : List Write
 of_two_lengths = of 1 (Put (codes "abc") (codes "1")) ∷ of 1 (PDel (codes "a")) ∷ []
@@ -249,6 +249,13 @@ of_two_lengths = of 1 (Put (codes "abc") (codes "1")) ∷ of 1 (PDel (codes "a")
 the_writes_overlap_a_longer_prefix : overlaps_some (of 1 (PDel (codes "ab"))) of_two_lengths ≡ true
 the_writes_overlap_a_longer_prefix = refl
 
-their_normal_form_does_not : overlaps_some (of 1 (PDel (codes "ab"))) (normal_form of_two_lengths) ≡ false
+so_does_their_normal_form : overlaps_some (of 1 (PDel (codes "ab"))) (normal_form of_two_lengths) ≡ true
 unfolding normal_form
-their_normal_form_does_not = refl
+so_does_their_normal_form = refl
+
+-- two prefixes of which neither is the other both stay
+prefixes_of_two_lengths_stay :
+    normal_form (of 1 (PDel (codes "ab")) ∷ of 1 (PDel (codes "a")) ∷ [])
+    ≡ of 1 (PDel (codes "a")) ∷ of 1 (PDel (codes "ab")) ∷ []
+unfolding normal_form
+prefixes_of_two_lengths_stay = refl

@@ -7,10 +7,11 @@ use Rattle.hse_rows.specs.declared.write.Write.{Write}
 use Rattle.hse_rows.specs.NormalForm.{normal_form}
 use Rattle.hse_rows.specs.Charge.{charge_of}
 use Rattle.hse_rows.specs.State.{Store, store_named}
+use Rattle.hse_rows.specs.Sizes.{Sizes}
 use Rattle.hse_rows.specs.ManifestRoom.{batch_bytes, creation_bytes, drop_bytes, half_room, goes_into_no_half}
 use Rattle.hse_rows.specs.Lines.{outside, Line, create_store, drop_store, list_stores, put, del, get, sync, info, reopen, silent, bad}
 use Rattle.hse_rows.specs.Answers.{Refusal, bad_line, store_exists, no_store, store_mode, key_length, value_length, prefix_length, broken, too_many, spent, manifest_full, txn_size, log_full}
-use Rattle.hse_rows.specs.Machine.{MachineState, Sizes, whole_room, left_room, now, number_of, longest_key, longest_value, longest_prefix, most_stores, greatest_number, write_to, stores_with, stores_but, base_need, for_store}
+use Rattle.hse_rows.specs.Machine.{MachineState, whole_room, left_room, now, number_of, longest_key, longest_value, longest_prefix, greatest_number, write_to, stores_with, stores_but, base_need, for_store}
 
 -- this refusal where the test says so, and else what comes later
 abbrev pub refuse : Bool → Refusal → Option Refusal → Option Refusal
@@ -60,7 +61,7 @@ refusal m (create_store name mode prefix) =
     refuse (is_some (store_named (now m) name)) store_exists
     (refuse (nat_lt longest_prefix prefix) (prefix_length prefix)
     (refuse m.is_broken broken
-    (refuse (nat_le most_stores (length (now m).stores)) (too_many most_stores)
+    (refuse (nat_le m.sizes.most_stores (length (now m).stores)) (too_many m.sizes.most_stores)
     (refuse (is_spent m) spent
     (manifest_refusal m (batch_bytes (creation_bytes name)) (stores_with m name mode prefix))))))
 refusal m (drop_store name) =

@@ -1,9 +1,6 @@
 -- Laws of the definitions, each the clause of a function of `src/laws.rt`.
-use Rattle.std.specs.Prelude.{◌≡◌, ◌≢◌, ℕ, ◌≤◌, List, ◌++◌, length, map, flat_map}
-use Rattle.std.specs.List.{AllByRecursion}
+use Rattle.std.specs.Prelude.{◌≡◌, ◌≢◌, ℕ, ◌≤◌, List, ◌++◌, map, flat_map}
 use Rattle.std.specs.FinMap as fin_map
-use Rattle.hse_rows.specs.declared.change.Change.{Change}
-use Rattle.hse_rows.specs.declared.change.Change.TheVariants.{Put, Del, PDel}
 use Rattle.hse_rows.specs.declared.write.Write.{Write}
 use Rattle.hse_rows.specs.NormalForm.{normal_form}
 use Rattle.hse_rows.specs.Reach.{left_by}
@@ -30,22 +27,10 @@ abbrev pub NormalFormsDoTheSame : Type 0
 NormalFormsDoTheSame =
     (state : State) (writes : List Write) → applied_all state (normal_form writes) ≡ applied_all state writes
 
--- a change's prefix, where it has one, is this long
-abbrev pub IsAsLong : Change → ℕ → Type 0
-IsAsLong (PDel prefix) long = length prefix ≡ long
-IsAsLong (Put key bytes) long = Unit {0}
-IsAsLong (Del key) long = Unit {0}
-
--- a write's prefix, where it has one, has the length of its store's
-abbrev pub HasLengthOf : (ℕ → ℕ) → Write → Type 0
-HasLengthOf lengths write = IsAsLong write.change (lengths write.store.0)
-
--- Where all prefixes of a store have one length, the same writes overlap a normal form.
+-- The same writes overlap a normal form.
 abbrev pub NormalFormsOverlapTheSame : Type 0
 NormalFormsOverlapTheSame =
-    (lengths : ℕ → ℕ) (write : Write) (writes : List Write)
-    → HasLengthOf lengths write → AllByRecursion (HasLengthOf lengths) writes
-    → overlaps_some write (normal_form writes) ≡ overlaps_some write writes
+    (write : Write) (writes : List Write) → overlaps_some write (normal_form writes) ≡ overlaps_some write writes
 
 -- One write overlaps another where that overlaps it.
 abbrev pub OverlapsGoBothWays : Type 0

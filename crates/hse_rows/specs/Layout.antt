@@ -1,9 +1,10 @@
 -- Layouts: the sets at the nodes of the stores' trees, and what the jobs make of them.
-use Rattle.std.specs.Prelude.{ℕ, ◌+◌, ◌-◌, ◌==◌, Bool, false, ◌&&◌, not, List, [], ◌∷◌, ◌++◌, length, take, drop, flat_map, sum_by, Option, Some, None}
+use Rattle.std.specs.Prelude.{ℕ, ◌+◌, ◌-◌, ◌==◌, Bool, false, ◌&&◌, ◌||◌, not, List, [], ◌∷◌, ◌++◌, length, take, drop, map, flat_map, sum_by, Option, Some, None}
 use Rattle.std.specs.List.{filter, find, fold, list_any}
 use Rattle.std.specs.declared.cmp.Ordering.{Ordering}
 use Rattle.std.specs.Ordering.{nat_cmp, on, then_cmp}
 use Rattle.std.specs.Cmp.Lexicographic.{slice_cmp}
+use Rattle.hse_rows.specs.declared.change.Change.{Change}
 use Rattle.hse_rows.specs.declared.row.Row.{Row}
 use Rattle.hse_rows.specs.Change.{covers, target}
 use Rattle.hse_rows.specs.Sorted.{placed}
@@ -12,7 +13,7 @@ use Rattle.hse_rows.specs.State.{Store}
 use Rattle.hse_rows.specs.Log.{Numbered}
 use Rattle.hse_rows.specs.Newest.{merged, newest, rows_of}
 use Rattle.hse_rows.specs.Packing.{prefix_blocks, key_blocks, value_blocks}
-use Rattle.hse_rows.specs.Routing.{child_of}
+use Rattle.hse_rows.specs.Routing.{is_short, child_of}
 
 -- rows in order, and how many blocks of each kind hold them
 pub record RowsInBlocks : Type 0 where
@@ -66,12 +67,28 @@ set_of slot_size (row ∷ rows) = record {
 abbrev pub in_front : Layout → ℕ → List ℕ → List RowsInBlocks → Layout
 in_front layout store path new = with_sets layout store path (new ++ sets_at layout store path)
 
+-- a set that a job makes, and its node
+pub record NewSet : Type 0 where
+  pub store : ℕ
+  pub path : List ℕ
+  pub set : RowsInBlocks
+
+abbrev pub new_sets : ℕ → List ℕ → List RowsInBlocks → List NewSet
+new_sets store path sets = map (λ set. record { store = store; path = path; set = set }) sets
+
+-- each at the front of its node
+abbrev pub in_fronts : Layout → List NewSet → Layout
+in_fronts layout sets = fold (λ l new. in_front l new.store new.path (new.set ∷ [])) layout sets
+
 -- ---- ingest
 
--- A layer's newest rows of each live store become one set at the front of its root.
+-- a layer's newest rows of each live store, as a set at its root
+abbrev pub ingest_sets : ℕ → List Store → List Numbered → List NewSet
+ingest_sets slot_size stores commits =
+    flat_map (λ store. new_sets store.id [] (set_of slot_size (newest (rows_of store.id commits)))) stores
+
 abbrev pub ingested : ℕ → Layout → List Store → List Numbered → Layout
-ingested slot_size layout stores commits =
-    fold (λ l store. in_front l store.id [] (set_of slot_size (newest (rows_of store.id commits)))) layout stores
+ingested slot_size layout stores commits = in_fronts layout (ingest_sets slot_size stores commits)
 
 -- ---- runs: as many adjacent sets of a node, with this many older ones behind
 
@@ -100,37 +117,50 @@ abbrev pub with_values_of : List RowsInBlocks → List RowsInBlocks → List Row
 with_values_of run [] = []
 with_values_of run (set ∷ rest) = record set { value_blocks = sum_by (λ (s : RowsInBlocks). s.value_blocks) run } ∷ rest
 
--- A key-value compaction writes the run's merged rows anew, in the run's place.
+-- A key-value compaction writes the run's merged rows anew.
+abbrev pub compaction_of : ℕ → List RowsInBlocks → Bool → List RowsInBlocks
+compaction_of slot_size run last = set_of slot_size (merged last (rows_of_run run))
+
+-- A key compaction takes over the run's value blocks.
+abbrev pub key_compaction_of : ℕ → List RowsInBlocks → Bool → List RowsInBlocks
+key_compaction_of slot_size run last = with_values_of run (compaction_of slot_size run last)
+
+-- each in the run's place
 abbrev pub compacted : ℕ → Layout → ℕ → List ℕ → ℕ → ℕ → Bool → Layout
 compacted slot_size layout store path older len last =
     with_sets layout store path
     (in_place_of_run (sets_at layout store path) older len
-    (set_of slot_size (merged last (rows_of_run (run_in (sets_at layout store path) older len)))))
+    (compaction_of slot_size (run_in (sets_at layout store path) older len) last))
 
--- A key compaction takes over the run's value blocks.
 abbrev pub keys_compacted : ℕ → Layout → ℕ → List ℕ → ℕ → ℕ → Bool → Layout
 keys_compacted slot_size layout store path older len last =
     with_sets layout store path
     (in_place_of_run (sets_at layout store path) older len
-    (with_values_of (run_in (sets_at layout store path) older len)
-    (set_of slot_size (merged last (rows_of_run (run_in (sets_at layout store path) older len))))))
+    (key_compaction_of slot_size (run_in (sets_at layout store path) older len) last))
 
 -- ---- spills
 
 abbrev pub children : List ℕ
 children = 0 ∷ 1 ∷ 2 ∷ 3 ∷ 4 ∷ 5 ∷ 6 ∷ 7 ∷ 8 ∷ 9 ∷ 10 ∷ 11 ∷ 12 ∷ 13 ∷ 14 ∷ 15 ∷ []
 
--- the rows that go to a child of a node at this depth
-abbrev pub part_for : ℕ → ℕ → ℕ → List Row → List Row
-part_for depth prefix_length child rows =
-    filter (λ row. child_of depth prefix_length (target row.change) == child) rows
+-- a row goes to a child of a node at this depth, and one of a short prefix to each
+abbrev pub goes_to : ℕ → ℕ → ℕ → Change → Bool
+goes_to depth prefix_length child change =
+    is_short prefix_length change || (child_of depth prefix_length (target change) == child)
 
--- A spill divides the merged rows of a node's oldest sets among its children, one set at the front of each.
+abbrev pub part_for : ℕ → ℕ → ℕ → List Row → List Row
+part_for depth prefix_length child rows = filter (λ row. goes_to depth prefix_length child row.change) rows
+
+-- A spill divides the merged rows of a node's oldest sets among its children.
+abbrev pub spill_of : ℕ → ℕ → List ℕ → ℕ → List RowsInBlocks → List NewSet
+spill_of slot_size store path prefix_length run =
+    flat_map (λ child.
+    new_sets store (path ++ child ∷ [])
+    (set_of slot_size (part_for (length path) prefix_length child (merged false (rows_of_run run)))))
+    children
+
+-- one set at the front of each, and the run leaves
 abbrev pub spilled : ℕ → Layout → ℕ → List ℕ → ℕ → ℕ → Layout
 spilled slot_size layout store path prefix_length len =
-    fold (λ l child.
-    in_front l store (path ++ child ∷ [])
-    (set_of slot_size (part_for (length path) prefix_length child
-    (merged false (rows_of_run (run_in (sets_at layout store path) 0 len))))))
-    (with_sets layout store path (in_place_of_run (sets_at layout store path) 0 len []))
-    children
+    in_fronts (with_sets layout store path (in_place_of_run (sets_at layout store path) 0 len []))
+    (spill_of slot_size store path prefix_length (run_in (sets_at layout store path) 0 len))

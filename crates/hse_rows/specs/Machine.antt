@@ -8,14 +8,8 @@ use Rattle.hse_rows.specs.NormalForm.{normal_form}
 use Rattle.hse_rows.specs.State.{Store, State, store_named}
 use Rattle.hse_rows.specs.History.{Event, commits, creates, drops, new_store, without, folded, last_number}
 use Rattle.hse_rows.specs.Log.{LogState, new_log, charge_of_active, room_of, room_left, logged}
+use Rattle.hse_rows.specs.Sizes.{Sizes}
 use Rattle.hse_rows.specs.ManifestRoom.{ManifestState, greatest_sequence, batch_bytes, head_bytes, creation_bytes, drop_bytes, base_bytes, gained}
-
--- how large the parts of the device are
-pub record Sizes : Type 0 where
-  pub slot_size : ℕ
-  pub slots : ℕ
-  pub half_size : ℕ
-  pub segment_size : ℕ
 
 pub record MachineState : Type 0 where
   pub sizes : Sizes
@@ -54,7 +48,7 @@ loaded sizes base log manifest used_slots = record {
 
 -- the first state of a half: nothing taken, and no store
 abbrev pub new_manifest : ManifestState
-new_manifest = record { sequence = 1; used = head_bytes + batch_bytes (base_bytes [] []); taken = [] }
+new_manifest = record { sequence = 1; used = head_bytes + batch_bytes (base_bytes [] [] []); taken = [] }
 
 -- from a device that was just formatted
 abbrev pub formatted : Sizes → MachineState
@@ -79,9 +73,6 @@ longest_value sizes = min 1048576 (sizes.slot_size - 64)
 abbrev pub longest_prefix : ℕ
 longest_prefix = 32
 
-abbrev pub most_stores : ℕ
-most_stores = 256
-
 abbrev pub greatest_number : ℕ
 greatest_number = 2 ^ 62
 
@@ -89,7 +80,7 @@ pub record IsWithinLimits (m : MachineState) : Type 0 where
   -- the commits of the active layer have room in their segment
   pub room : charge_of_active m.log ≤ whole_room m
   pub numbers : number_of m ≤ greatest_number
-  pub stores : length (now m).stores ≤ most_stores
+  pub stores : length (now m).stores ≤ m.sizes.most_stores
   -- the manifest's batches have room in their half
   pub half : m.manifest.used ≤ m.sizes.half_size
   pub sequences : m.manifest.sequence ≤ greatest_sequence
@@ -131,7 +122,7 @@ taken_with m = m.manifest.taken ++ (number_of m + 1) ∷ []
 
 -- what the whole state with these stores needs after the next event
 abbrev pub base_need : MachineState → List Store → ℕ
-base_need m stores = batch_bytes (base_bytes (taken_with m) stores)
+base_need m stores = batch_bytes (base_bytes (taken_with m) stores [])
 
 -- the manifest with an entry of this need, after which these are the stores
 abbrev pub noted : MachineState → ℕ → List Store → ManifestState

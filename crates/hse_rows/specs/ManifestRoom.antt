@@ -1,6 +1,8 @@
 -- The manifest's room: how many bytes its entries take, and when it goes to its other half.
 use Rattle.std.specs.Prelude.{ℕ, ◌+◌, ◌-◌, ◌*◌, ◌^◌, nat_le, nat_lt, ◌&&◌, ◌||◌, not, Bool, if◌then◌else◌, List, length, sum_by}
 use Rattle.hse_rows.specs.State.{Store}
+use Rattle.hse_rows.specs.Layout.{RowsInBlocks, Node, Layout, NewSet}
+use Rattle.hse_rows.specs.TakenRuns.{runs_of}
 
 pub record ManifestState : Type 0 where
   -- the sequence of the half in force
@@ -26,13 +28,36 @@ creation_bytes name = 12 + length name
 abbrev pub drop_bytes : ℕ
 drop_bytes = 17
 
--- A store without sets: id, the name and its length, mode, prefix length and the count of its nodes.
+-- A store: id, the name and its length, mode, prefix length and the count of its nodes.
 abbrev pub store_bytes : Store → ℕ
 store_bytes store = 15 + length store.name
 
--- The whole state: kind, horizon, first segment, the taken numbers and the stores, each list with its count.
-abbrev pub base_bytes : List ℕ → List Store → ℕ
-base_bytes taken stores = 25 + 8 * length taken + sum_by store_bytes stores
+-- a path: its depth and its digits
+abbrev pub path_bytes : List ℕ → ℕ
+path_bytes path = 1 + length path
+
+-- A set: how many blocks of each kind it has, and their slots.
+abbrev pub set_bytes : RowsInBlocks → ℕ
+set_bytes set = 12 + 4 * (set.prefix_blocks + set.key_blocks + set.value_blocks)
+
+-- a node: path, and its sets with their count
+abbrev pub node_bytes : Node → ℕ
+node_bytes node = path_bytes node.path + 4 + sum_by set_bytes node.sets
+
+-- An ingest: kind, horizon, first segment, and the new sets with their count, each with its store's id.
+abbrev pub ingest_bytes : List NewSet → ℕ
+ingest_bytes sets = 21 + sum_by (λ (new : NewSet). 8 + set_bytes new.set) sets
+
+-- A job on a run: kind, id, path, the older sets behind, the length, and the new sets with their count, each with its path.
+abbrev pub run_bytes : List ℕ → List NewSet → ℕ
+run_bytes path sets =
+    9 + path_bytes path + 8 + 4 + sum_by (λ (new : NewSet). path_bytes new.path + set_bytes new.set) sets
+
+-- The whole state: kind, horizon, first segment, the taken numbers in runs and the stores, each list with its count, and
+-- the nodes of the stores.
+abbrev pub base_bytes : List ℕ → List Store → Layout → ℕ
+base_bytes taken stores layout =
+    25 + 8 * length (runs_of taken) + sum_by store_bytes stores + sum_by node_bytes layout
 
 -- the greatest sequence
 abbrev pub greatest_sequence : ℕ

@@ -26,7 +26,7 @@ abbrev pub RefusesValue : ℕ → ℕ → ValueFault → Type 0
 RefusesValue most given (value.Length n) = (n ≡ given) × (most < given)
 RefusesValue most given value.NoMemory = given ≤ most
 
--- a prefix of this many bytes in a store with this prefix length
+-- a prefix of this many bytes in a store whose prefixes have this many at most
 abbrev pub RefusesPrefix : ℕ → ℕ → PrefixFault → Type 0
 RefusesPrefix prefix_length given (prefix.Length n) = (n ≡ given) × ¬ FitsPrefix prefix_length given
 RefusesPrefix prefix_length given prefix.NoMemory = FitsPrefix prefix_length given

@@ -1,6 +1,8 @@
 -- Which child of a node a key or a prefix goes to.
-use Rattle.std.specs.Prelude.{ℕ, ◌+◌, ◌*◌, ◌/◌, ◌%◌, ◌^◌, ◌==◌, if◌then◌else◌, List, take}
+use Rattle.std.specs.Prelude.{ℕ, ◌+◌, ◌*◌, ◌/◌, ◌%◌, ◌^◌, ◌==◌, nat_lt, Bool, false, if◌then◌else◌, List, length, take}
 use Rattle.std.specs.List.{fold}
+use Rattle.hse_rows.specs.declared.change.Change.{Change}
+use Rattle.hse_rows.specs.declared.change.Change.TheVariants.{Put, Del, PDel}
 
 -- the greatest depth of a node
 abbrev pub greatest_depth : ℕ
@@ -16,3 +18,9 @@ routing_bytes prefix_length key = if prefix_length == 0 then key else take prefi
 -- the child of a node at this depth, 0 to 15
 abbrev pub child_of : ℕ → ℕ → List ℕ → ℕ
 child_of depth prefix_length key = (hash_of (routing_bytes prefix_length key) / 16 ^ depth) % 16
+
+-- A prefix of the full length is routed as a key. A shorter one has no child of its own.
+abbrev pub is_short : ℕ → Change → Bool
+is_short prefix_length (PDel prefix) = nat_lt (length prefix) prefix_length
+is_short prefix_length (Put key bytes) = false
+is_short prefix_length (Del key) = false

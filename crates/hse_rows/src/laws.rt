@@ -7,6 +7,9 @@ ghost use Rattle.hse_rows.specs.Laws.{LinesAreAnswered, LinesHaveOneAnswer};
 ghost use Rattle.hse_rows.specs.Laws.{CreationsMayComeFirst, FrontsAreRooted, StepsKeepRoots};
 ghost use Rattle.hse_rows.specs.Laws.{StepsRecordEvents, CommitsHaveTheWrites};
 ghost use Rattle.hse_rows.specs.Laws.{StepsKeepStates, StepsKeepLimits};
+ghost use Rattle.hse_rows.specs.Isolation.{MovesKeepIsolated, SnapshotsAreIsolated};
+ghost use Rattle.hse_rows.specs.Sources.{MovesKeepSources, MovesKeepRoots};
+ghost use Rattle.hse_rows.specs.Sources.{ConflictsAreOfTransactions};
 
 /// After writes in order a key holds what the last write that touches it leaves there, and what it
 /// held where none does.
@@ -19,8 +22,7 @@ pub fn normal_forms_do_the_same()
     ensures { NormalFormsDoTheSame }
 {}
 
-/// Where all prefixes of a store have one length, a write overlaps one of a normal form exactly where
-/// it overlaps one of the writes that it is of.
+/// A write overlaps one of a normal form exactly where it overlaps one of the writes that it is of.
 pub fn normal_forms_overlap_the_same()
     ensures { NormalFormsOverlapTheSame }
 {}
@@ -77,4 +79,20 @@ pub fn steps_record_events()
 /// their half, and numbers and counts are within their limits.
 pub fn steps_keep_limits()
     ensures { StepsKeepLimits }
+{}
+
+/// Snapshot isolation. No two transactions that each began before the other's commit both committed
+/// overlapping writes. Each move keeps active transactions apart from all others, so a commit is
+/// never canceled.
+pub fn snapshots_are_isolated()
+    ensures moves { MovesKeepIsolated }
+    ensures isolated { SnapshotsAreIsolated }
+{}
+
+/// Each commit is of a transaction, or one write of a `plain` store. A commit since a snapshot that
+/// overlaps a write of a `tx` store of that snapshot is a transaction's.
+pub fn conflicts_are_of_transactions()
+    ensures sources { MovesKeepSources }
+    ensures conflicts { ConflictsAreOfTransactions }
+    ensures roots { MovesKeepRoots }
 {}

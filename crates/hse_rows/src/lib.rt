@@ -2,6 +2,7 @@
 #![tactic(auto)]
 
 mod change;
+mod core_laws;
 mod edge;
 mod key;
 mod laws;
@@ -17,11 +18,16 @@ mod write;
 mod write_set;
 
 pub use change::{Change, ChangeRef};
+pub use core_laws::{
+    calls_have_one_answer, core_answers_lead_one_way, others_keep_timelines, runs_are_isolated,
+    timelines_stand,
+};
 pub use edge::Edge;
 pub use key::{Key, KeyFault};
 pub use laws::{
-    answers_lead_one_way, creations_may_come_first, keys_hold_last_effects, lines_have_one_answer,
-    normal_forms_do_the_same, normal_forms_overlap_the_same, overlaps_go_both_ways, snapshots_stay,
+    answers_lead_one_way, conflicts_are_of_transactions, creations_may_come_first,
+    keys_hold_last_effects, lines_have_one_answer, normal_forms_do_the_same,
+    normal_forms_overlap_the_same, overlaps_go_both_ways, snapshots_are_isolated, snapshots_stay,
     steps_keep_limits, steps_keep_states, steps_record_events,
 };
 pub use name::{NameFault, StoreName};

@@ -52,17 +52,17 @@ impl From<NoMemory> for PrefixFault {
 }
 
 /// The most bytes that a prefix has.
-const LONGEST_PREFIX: u8 = 32;
+const LONGEST_PREFIX: usize = 32;
 
 impl Prefix {
-    /// A prefix of these bytes for a store with this prefix length. `Length` comes exactly where
-    /// the length is not 1 to 32 or is not the number of the bytes, with their number.
+    /// A prefix of these bytes for a store whose prefixes have at most `length` bytes. `Length` comes
+    /// exactly where the number of the bytes is 0, or above `length` or 32, with that number.
     pub fn new(alloc: Global, bytes: &[u8], length: u8) -> Result<Prefix, PrefixFault>
         ensures made { IfOk result (λ prefix. prefix ≡ bytes.now) }
         ensures within { IfOk result (λ prefix. FitsPrefix length (number_of prefix)) }
         ensures refused { IfErr result (RefusesPrefix length (number_of bytes.now)) }
     {
-        if length == 0 || length > LONGEST_PREFIX || bytes.len() != length as usize {
+        if bytes.is_empty() || bytes.len() > length as usize || bytes.len() > LONGEST_PREFIX {
             return Err(PrefixFault::Length(bytes.len() as u64));
         }
         let bytes = SharedBytes::new(alloc, bytes)?;

@@ -117,8 +117,9 @@ fn each_maker_keeps_its_limits(rt: HostRuntime) -> Result<(), Fail> {
     assert_eq!(rt; Edge::new(alloc, b"")?.bytes().len(), 0);
     assert!(rt; Value::new(alloc, b"four", 3).err() == Some(ValueFault::Length(4)));
     assert_eq!(rt; Value::new(alloc, b"four", 4)?.bytes(), b"four".as_slice());
-    assert!(rt; Prefix::new(alloc, b"ab", 0).err() == Some(PrefixFault::Length(2)));
-    assert!(rt; Prefix::new(alloc, b"ab", 3).err() == Some(PrefixFault::Length(2)));
+    assert!(rt; Prefix::new(alloc, b"", 3).err() == Some(PrefixFault::Length(0)));
+    assert!(rt; Prefix::new(alloc, b"ab", 1).err() == Some(PrefixFault::Length(2)));
+    assert_eq!(rt; Prefix::new(alloc, b"ab", 3)?.bytes(), b"ab".as_slice());
     assert!(rt; Prefix::new(alloc, &long[..33], 33).err() == Some(PrefixFault::Length(33)));
     assert_eq!(rt; Prefix::new(alloc, &long[..32], 32)?.bytes().len(), 32);
     Ok(())

@@ -1,0 +1,161 @@
+-- Laws of the core, each the clause of a function of `src/core_laws.rt`.
+use Rattle.std.specs.Prelude.{◌≡◌, ◌≢◌, ℕ, List, [], ◌∷◌}
+use Rattle.hse_rows.specs.State.{IsState}
+use Rattle.hse_rows.specs.Rooted.{AreRooted}
+use Rattle.hse_rows.specs.Timeline.{Timeline, Goes}
+use Rattle.hse_rows.specs.Timeline as timeline
+use Rattle.hse_rows.specs.Isolation.{IsIsolated, AreIsolated}
+use Rattle.hse_rows.specs.Sources.{IsSourced}
+use Rattle.hse_rows.specs.Turn.{TurnWish, sync, freeze, install, create, drop}
+use Rattle.hse_rows.specs.Replies.{Refusal, Answer, refused, no_memory, device_fault, canceled_held, canceled_since}
+use Rattle.hse_rows.specs.Calls.{Call, begin, write_by, get, commit, abort, list_stores, tree, info, take_place, give_place, pick, build, drop_job, next_job, take, write_turn, end_turn, reopen}
+use Rattle.hse_rows.specs.Core.{Core, Stored, life}
+use Rattle.hse_rows.specs.CoreStep.{Found, loads, breaks_off, has_version, Step, answer_of, led_to}
+
+-- ---- runs
+
+-- a call, what it was answered, and what the device had for an opening
+pub record Entry : Type 0 where
+  pub found : Found
+  pub call : Call
+  pub answer : Answer ℕ
+
+-- From old these entries, one after another, lead to new.
+abbrev pub Run : Core → List Entry → Core → Type 0
+Run old [] new = new ≡ old
+Run old (entry ∷ entries) new =
+    (mid : Core) × Step entry.found old entry.call entry.answer mid × Run mid entries new
+
+-- ---- snapshot isolation
+
+-- A step moves the timeline by an allowed move, or opens it anew, or leaves it.
+abbrev pub StepsMoveTimelines : Type 0
+StepsMoveTimelines =
+    (found : Found) (old new : Core) (call : Call) (answer : Answer ℕ)
+    → Step found old call answer new → Goes old.timeline new.timeline
+
+-- In every run no two transactions that each began before the other's commit both committed overlapping writes.
+abbrev pub RunsAreIsolated : Type 0
+RunsAreIsolated =
+    (stored : Stored) (entries : List Entry) (new : Core)
+    → Run (life stored) entries new → AreIsolated new.timeline
+
+-- A commit is never canceled.
+abbrev pub CommitsAreNotCanceled : Type 0
+CommitsAreNotCanceled =
+    (found : Found) (old new : Core) (order number : ℕ)
+    → (Step found old (commit order) (refused (canceled_held number)) new → ⊥)
+    × (Step found old (commit order) (refused (canceled_since number)) new → ⊥)
+
+-- ---- what turns and jobs leave
+
+-- the calls that may change the history or a transaction
+abbrev pub TakesEvent : TurnWish → Type 0
+TakesEvent sync = ⊥
+TakesEvent freeze = ⊥
+TakesEvent (install id) = ⊥
+TakesEvent (create name mode prefix) = Unit {0}
+TakesEvent (drop name) = Unit {0}
+
+abbrev pub ChangesTimeline : Call → Type 0
+ChangesTimeline begin = Unit {0}
+ChangesTimeline (write_by actor name change) = Unit {0}
+ChangesTimeline (commit order) = Unit {0}
+ChangesTimeline (abort order) = Unit {0}
+ChangesTimeline (take wish) = TakesEvent wish
+ChangesTimeline reopen = Unit {0}
+ChangesTimeline (get actor name key) = ⊥
+ChangesTimeline list_stores = ⊥
+ChangesTimeline (tree name) = ⊥
+ChangesTimeline info = ⊥
+ChangesTimeline take_place = ⊥
+ChangesTimeline give_place = ⊥
+ChangesTimeline (pick wish) = ⊥
+ChangesTimeline (build id) = ⊥
+ChangesTimeline (drop_job id) = ⊥
+ChangesTimeline next_job = ⊥
+ChangesTimeline write_turn = ⊥
+ChangesTimeline end_turn = ⊥
+
+-- and those that change the count of cursors
+abbrev pub ChangesCursors : Call → Type 0
+ChangesCursors take_place = Unit {0}
+ChangesCursors give_place = Unit {0}
+ChangesCursors reopen = Unit {0}
+ChangesCursors begin = ⊥
+ChangesCursors (write_by actor name change) = ⊥
+ChangesCursors (commit order) = ⊥
+ChangesCursors (abort order) = ⊥
+ChangesCursors (take wish) = ⊥
+ChangesCursors (get actor name key) = ⊥
+ChangesCursors list_stores = ⊥
+ChangesCursors (tree name) = ⊥
+ChangesCursors info = ⊥
+ChangesCursors (pick wish) = ⊥
+ChangesCursors (build id) = ⊥
+ChangesCursors (drop_job id) = ⊥
+ChangesCursors next_job = ⊥
+ChangesCursors write_turn = ⊥
+ChangesCursors end_turn = ⊥
+
+-- The phases of a sync, a freeze and an install, picks and builds change no state, no transaction and no cursor.
+abbrev pub OthersKeepTimelines : Type 0
+OthersKeepTimelines =
+    (found : Found) (old new : Core) (call : Call) (answer : Answer ℕ)
+    → Step found old call answer new → (ChangesTimeline call → ⊥) → new.timeline ≡ old.timeline
+
+abbrev pub OthersKeepCursors : Type 0
+OthersKeepCursors =
+    (found : Found) (old new : Core) (call : Call) (answer : Answer ℕ)
+    → Step found old call answer new → (ChangesCursors call → ⊥) → new.cursors ≡ old.cursors
+
+-- ---- what stands in every timeline
+
+pub record Stands (m : Timeline) : Type 0 where
+  -- in the base and now two names have two ids, and ids are numbers of events
+  pub base : IsState m.base
+  pub now : IsState (timeline.now m)
+  pub isolated : IsIsolated m
+  pub sourced : IsSourced m
+  -- each commit writes to stores that were created before it
+  pub rooted : AreRooted m.base.number m.history
+
+abbrev pub LoadsState : Found → Type 0
+LoadsState (loads stored) = IsState stored.base
+LoadsState (breaks_off part place) = Unit {0}
+LoadsState (has_version version) = Unit {0}
+
+-- It stands at the beginning of a life, and steps keep it.
+abbrev pub LivesStand : Type 0
+LivesStand = (stored : Stored) → IsState stored.base → Stands (life stored).timeline
+
+abbrev pub StepsKeepStanding : Type 0
+StepsKeepStanding =
+    (found : Found) (old new : Core) (call : Call) (answer : Answer ℕ)
+    → LoadsState found → Stands old.timeline → Step found old call answer new → Stands new.timeline
+
+-- ---- answers
+
+-- An answer leads one way.
+abbrev pub AnswersLeadOneWay : Type 0
+AnswersLeadOneWay =
+    (found : Found) (old new : Core) (call : Call) (answer : Answer ℕ)
+    → Step found old call answer new → new ≡ led_to found old call answer
+
+-- A refusal changes nothing, but that an end gives a turn back whose device calls failed.
+abbrev pub RefusalsChangeNothing : Type 0
+RefusalsChangeNothing =
+    (found : Found) (old new : Core) (call : Call) (reason : Refusal ℕ)
+    → call ≢ end_turn → Step found old call (refused reason) new → new ≡ old
+
+-- But for want of memory and a device fault, a call has one answer.
+abbrev pub CallsHaveOneAnswer : Type 0
+CallsHaveOneAnswer =
+    (found : Found) (old new : Core) (call : Call) (answer : Answer ℕ)
+    → answer ≢ no_memory → answer ≢ device_fault → Step found old call answer new → answer ≡ answer_of found old call
+
+-- And that is an answer of the machine's.
+abbrev pub CallsAreAnswered : Type 0
+CallsAreAnswered =
+    (found : Found) (old : Core) (call : Call)
+    → Step found old call (answer_of found old call) (led_to found old call (answer_of found old call))

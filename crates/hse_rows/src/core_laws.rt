@@ -1,0 +1,43 @@
+//! Laws of the machine's core. Each function does nothing; its contract is the law.
+ghost use Rattle.hse_rows.specs.CoreLaws.{StepsMoveTimelines, RunsAreIsolated};
+ghost use Rattle.hse_rows.specs.CoreLaws.{CommitsAreNotCanceled};
+ghost use Rattle.hse_rows.specs.CoreLaws.{OthersKeepTimelines, OthersKeepCursors};
+ghost use Rattle.hse_rows.specs.CoreLaws.{LivesStand, StepsKeepStanding};
+ghost use Rattle.hse_rows.specs.CoreLaws.{AnswersLeadOneWay, RefusalsChangeNothing};
+ghost use Rattle.hse_rows.specs.CoreLaws.{CallsAreAnswered, CallsHaveOneAnswer};
+
+/// Snapshot isolation. In every run no two transactions that each began before the other's commit
+/// both committed overlapping writes, and a commit is never canceled.
+pub fn runs_are_isolated()
+    ensures moves { StepsMoveTimelines }
+    ensures isolated { RunsAreIsolated }
+    ensures canceled { CommitsAreNotCanceled }
+{}
+
+/// The phases of a sync, a freeze and an install, picks and builds change no state, no transaction
+/// and no cursor.
+pub fn others_keep_timelines()
+    ensures timelines { OthersKeepTimelines }
+    ensures cursors { OthersKeepCursors }
+{}
+
+/// In every timeline two stores have two names and two ids, ids are numbers of events, transactions
+/// are apart, and each commit is a transaction's or one write of a `plain` store and writes to stores
+/// that were created before it.
+pub fn timelines_stand()
+    ensures lives { LivesStand }
+    ensures steps { StepsKeepStanding }
+{}
+
+/// An answer of the core leads one way. A refusal changes nothing, but that an end gives a turn back
+/// whose device calls failed.
+pub fn core_answers_lead_one_way()
+    ensures one_way { AnswersLeadOneWay }
+    ensures refused { RefusalsChangeNothing }
+{}
+
+/// Each call of the core has an answer, and but for want of memory and a device fault no other.
+pub fn calls_have_one_answer()
+    ensures answered { CallsAreAnswered }
+    ensures one { CallsHaveOneAnswer }
+{}
