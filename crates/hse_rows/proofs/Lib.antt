@@ -33,3 +33,4 @@ pub mod ModeLemmas
 pub mod IsolationLemmas
 pub mod SourceLemmas
 pub mod TimelineRoots
+mod MeaningCases
