@@ -32,6 +32,8 @@ pub mod Isolation
 pub mod Sources
 pub mod Cursor
 pub mod Newest
+pub mod Meaning
+pub mod RowSets
 pub mod Packing
 pub mod Routing
 pub mod Layout
