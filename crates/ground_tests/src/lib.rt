@@ -2,6 +2,10 @@
 #![tactic(auto)]
 
 #[cfg(test)]
+mod disks;
+#[cfg(test)]
 mod files;
 #[cfg(test)]
 mod lines;
+#[cfg(test)]
+mod regions;

@@ -5,7 +5,7 @@ use Rattle.std.proofs.Common.{refl, sym, ◌∙◌, ap, subst, inl, inr, arith, 
 use Rattle.std.proofs.lemmas.List.{append_cancel_left, take_at, drop_at}
 use Rattle.byteorder.specs.Endian.{big_bytes, big_number}
 use Rattle.byteorder.specs.Numbers.{big_number-reads_back, length-bytes_high_first}
-use Rattle.gate_log.specs.Gates.{Gated, IsShut, IsCutOff, DamagedAt, AreFramed, open_gate, open_part, frame}
+use Rattle.gate_log.specs.Gates.{Gated, IsClosed, IsCutOff, DamagedAt, AreFramed, open_gate, open_part, frame}
 
 -- a number of n bytes and what follows, by their bytes
 number_first : (n x y : ℕ) (a b : List ℕ) → x < 256 ^ n → y < 256 ^ n → big_bytes n x ++ a ≡ big_bytes n y ++ b → (x ≡ y) × (a ≡ b)
@@ -100,16 +100,16 @@ one_place region place other first second =
     ∙ sym second.place_is
 
 -- a region that holds batches has an open head
-pub gated_not_shut : (region : List ℕ) (sequence : ℕ) (payloads : List (List ℕ)) → Gated region sequence payloads → IsShut region → ⊥
-gated_not_shut region sequence payloads gated shut =
-    let closed : IsShut (open_part sequence payloads ++ gated.gate ∷ gated.rest) = subst IsShut gated.spelled shut in
-    closed refl
+pub gated_not_closed : (region : List ℕ) (sequence : ℕ) (payloads : List (List ℕ)) → Gated region sequence payloads → IsClosed region → ⊥
+gated_not_closed region sequence payloads gated closed =
+    let differs : IsClosed (open_part sequence payloads ++ gated.gate ∷ gated.rest) = subst IsClosed gated.spelled closed in
+    differs refl
 
 -- a damaged region has an open head
-pub damaged_not_shut : (region : List ℕ) (place : ℕ) → DamagedAt region place → IsShut region → ⊥
-damaged_not_shut region place damaged shut =
-    let closed : IsShut (open_part damaged.sequence damaged.payloads ++ open_gate ∷ damaged.rest) = subst IsShut damaged.spelled shut in
-    closed refl
+pub damaged_not_closed : (region : List ℕ) (place : ℕ) → DamagedAt region place → IsClosed region → ⊥
+damaged_not_closed region place damaged closed =
+    let differs : IsClosed (open_part damaged.sequence damaged.payloads ++ open_gate ∷ damaged.rest) = subst IsClosed damaged.spelled closed in
+    differs refl
 
 -- a region that holds batches up to a closed gate is not damaged
 pub gated_not_damaged : (region : List ℕ) (sequence : ℕ) (payloads : List (List ℕ)) (place : ℕ)

@@ -3,9 +3,9 @@ use Rattle.std.proofs.Common.{◌≡◌, ◌⊎◌, ℕ, ◌+◌, ◌-◌, ◌�
 use Rattle.media_disk.specs.Content.{put_at, Torn}
 use Rattle.media_disk.specs.Images.{IsImage}
 use Rattle.gate_log.specs.Crashes.{IsWithin}
-use Rattle.gate_log.specs.Places.{IsApart, region_of}
+use Rattle.gate_log.specs.Places.{IsApart, AreApart, region_of}
 use Rattle.gate_log.specs.declared.region.Region.{Region}
-use Rattle.gate_log.specs.Ranges.{part-put, torn_apart, torn_part, torn_wider}
+use Rattle.gate_log.specs.laws.Ranges.{part-put, torn_apart, torn_part, torn_wider}
 
 -- no pending range touches the region, so a crash leaves it as it is
 pub image_apart : (region : Region) (ranges : List (ℕ × ℕ)) (bytes image : List ℕ) → IsApart region ranges → IsImage bytes ranges image
@@ -33,10 +33,6 @@ pub region_wider : (region : Region) (place n : ℕ) (old new : List ℕ) → pl
     → Torn region.at region.size old new
 region_wider region place n old new fits torn =
     torn_wider region.at region.size (region.at + place) n old new (omega arith) (omega arith) torn
-
--- two regions have no byte in common
-abbrev pub AreApart : Region → Region → Type 0
-AreApart region other = (region.at + region.size ≤ other.at) ⊎ (other.at + other.size ≤ region.at)
 
 -- a change within one region leaves a region apart from it as it was
 pub other_region : (region other : Region) (old new : List ℕ) → AreApart region other

@@ -3,11 +3,6 @@ use Rattle.std.proofs.Common.{◌≡◌, ◌⊎◌, inl, inr, ⊎_elim, ℕ, ◌
 use Rattle.std.proofs.Math.Seq.{take-append-add}
 use Rattle.std.proofs.lemmas.List.{same_lists, length-take, get_or-take, get_or-drop, take-take, drop-take, drop-drop, drop-append-le}
 use Rattle.media_disk.specs.Content.{part, put_at, Torn}
-use Rattle.media_disk.specs.Images.{IsImage}
-
--- nothing changed
-pub torn_same : (at n : ℕ) (a : List ℕ) → Torn at n a a
-torn_same at n a = record { as_long = refl; before = refl; after = refl }
 
 -- two changes within one range
 pub torn_twice : (at n : ℕ) (a b c : List ℕ) → Torn at n a b → Torn at n b c → Torn at n a c
@@ -92,8 +87,3 @@ part-put s new at size p low high fits =
     ∙ take_past (take (p - at) (drop at s)) (new ++ drop (p + l) s) size k (omega arith)
     ∙ ap (λ (x : List ℕ). take (p - at) (drop at s) ++ x) (take_past new (drop (p + l) s) k j (omega arith) ∙ ap (λ (x : List ℕ). new ++ x) back)
     ∙ ap (λ (x : List ℕ). x ++ (new ++ drop (p - at + l) (take size (drop at s)))) (sym (take-take (p - at) size (drop at s) (omega arith)))
-
--- what a read gives is among what a crash may leave
-pub image_now : (bytes : List ℕ) (ranges : List (ℕ × ℕ)) → IsImage bytes ranges bytes
-image_now bytes [] = refl
-image_now bytes (range ∷ ranges) = (bytes, torn_same range.0 range.1 bytes, image_now bytes ranges)

@@ -1,9 +1,10 @@
 //! A write that is made safe at once.
-ghost use Rattle.std.specs.Prelude.{◌≡◌, ◌+◌, ◌≤◌, [], length, OnOk, OnErr};
+ghost use Rattle.std.specs.Prelude.{◌≡◌, ◌+◌, ◌≤◌, [], length, OnOk};
 ghost use Rattle.hse_io.specs.Faults.{HasCause};
+ghost use Rattle.media_disk.specs.Calls.{CallsMade};
 ghost use Rattle.media_disk.specs.Content.{put_at, Torn};
-ghost use Rattle.media_disk.specs.Images.{IsImage};
-ghost use Rattle.media_disk.specs.Leaves.{Leaves};
+ghost use Rattle.media_disk.specs.Images.{MayLeave};
+ghost use Rattle.media_disk.specs.Leaves.{LeavesOnly};
 ghost use Rattle.gate_log.specs.Crashes.{IsTornFrom};
 
 use media_disk::{Disk, Failed};
@@ -12,16 +13,15 @@ use media_disk::{Disk, Failed};
 /// but for these bytes, which may be any.
 pub(crate) fn write_and_sync<D: Disk>(disk: &mut D, at: u64, bytes: &[u8]) -> Result<(), Failed>
     requires { at + length bytes.now ≤ D.extent disk.old }
+    ensures calls { CallsMade D.Device disk.old disk.new }
+    ensures cause { HasCause (D.faults disk.old) (D.faults disk.new) result }
+    ensures extent { D.extent disk.new ≡ D.extent disk.old }
     ensures written { D.tells
         → OnOk result (D.seen disk.new ≡ put_at (D.seen disk.old) at bytes.now) }
     ensures others { D.tells → Torn at (length bytes.now) (D.seen disk.old) (D.seen disk.new) }
     ensures durable { D.tells → OnOk result (D.pending disk.new ≡ []) }
-    ensures extent { D.extent disk.new ≡ D.extent disk.old }
-    ensures clock { D.moment disk.old ≤ D.moment disk.new }
-    ensures cause { HasCause (D.faults disk.old) (D.faults disk.new) result }
-    ensures last { OnErr result (D.failed_at disk.new ≡ D.moment disk.new) }
-    ensures crash { D.tells → Leaves (D.moment disk.old) (D.could disk.old) (D.could disk.new)
-        (IsTornFrom at (length bytes.now) (IsImage (D.seen disk.old) (D.pending disk.old))) }
+    ensures crash { D.tells → LeavesOnly D.Device disk.old disk.new
+        (IsTornFrom at (length bytes.now) (MayLeave D.Device disk.old)) }
 {
     disk.write(at, bytes)?;
     disk.sync()
