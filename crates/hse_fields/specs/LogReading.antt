@@ -5,7 +5,8 @@ use Rattle.std.specs.List.{AllByRecursion}
 use Rattle.byteorder.specs.Endian.{big_number}
 use Rattle.hse_fields.specs.LogText.{Kind, put, del, pdel, Change, Entry}
 use Rattle.hse_fields.specs.LogOrder.{may_follow, kind_may_follow, store_may_follow}
-use Rattle.hse_fields.specs.LogForm.{longest_name, longest_value}
+use Rattle.hse_fields.specs.LogForm.{longest_name}
+use Rattle.hse_fields.specs.LogLimits.{longest_value}
 
 infixl 10 ◌>>=◌
 abbrev pub ◌>>=◌ : {A B : Type 0} → Result A ℕ → (A → Result B ℕ) → Result B ℕ

@@ -8,9 +8,9 @@ use Rattle.byteorder.specs.Endian.{big_bytes}
 use Rattle.byteorder.specs.Numbers.{length-bytes_high_first}
 use Rattle.hse_fields.specs.LogText.{Entry, entry_text, payload_text}
 use Rattle.hse_fields.specs.LogReading.{◌>>=◌, entry_of, entries_of, payload_of}
-use Rattle.hse_fields.specs.FieldLaws.{IsBytes}
-use Rattle.hse_fields.specs.PayloadLaws.{payload_takes}
-use Rattle.hse_fields.specs.WithinLaws.{payload_within}
+use Rattle.hse_fields.specs.laws.Fields.{IsBytes}
+use Rattle.hse_fields.specs.laws.Payloads.{payload_takes}
+use Rattle.hse_fields.specs.laws.Within.{payload_within}
 use Rattle.wal.specs.declared.refusal.Refusal.{Refusal}
 use Rattle.wal.specs.declared.refusal.Refusal.TheVariants.{Left, NoMemory}
 use Rattle.wal.specs.Charges.{charges}

@@ -5,8 +5,8 @@ use Rattle.gate_log.specs.declared.front.End.TheVariants.{Closed}
 use Rattle.gate_log.specs.declared.region.Tail.{Tail}
 use Rattle.hse_fields.specs.LogText.{Change, Entry}
 use Rattle.hse_fields.specs.LogReading.{◌>>=◌, ensure, given, number_of, changes_of, any_changes_of, Rule, comes_with, has_room, entry_of, entries_of, payload_of}
-use Rattle.hse_fields.specs.FieldLaws.{bind_ok, ensure_ok, given_ok, ok_is}
-use Rattle.hse_fields.specs.PayloadLaws.{entry, from_changes, from_room, from_next, from_number, other_entries_of, ended_of}
+use Rattle.hse_fields.specs.laws.Fields.{bind_ok, ensure_ok, given_ok, ok_is}
+use Rattle.hse_fields.specs.laws.Payloads.{entry, from_changes, from_room, from_next, from_number, other_entries_of, ended_of}
 use Rattle.wal.specs.BatchLaws.{Reads, first_of, none_read, reads_none, reads_first, batches_follow, closed_read}
 use Rattle.wal.specs.Live.{prefix_fits}
 use Rattle.wal.specs.Logged.{charge}

@@ -8,8 +8,8 @@ use Rattle.gate_log.specs.declared.front.End.TheVariants.{Closed, CutOff}
 use Rattle.gate_log.specs.declared.region.Tail.{Tail}
 use Rattle.hse_fields.specs.LogText.{Entry}
 use Rattle.hse_fields.specs.LogReading.{◌>>=◌, payload_of, Follow}
-use Rattle.hse_fields.specs.FieldLaws.{bind_ok, ok_is}
-use Rattle.hse_fields.specs.FollowLaws.{payload_follows, follow-append}
+use Rattle.hse_fields.specs.laws.Fields.{bind_ok, ok_is}
+use Rattle.hse_fields.specs.laws.Follow.{payload_follows, follow-append}
 use Rattle.wal.specs.Numbering.{Numbers, numbering}
 use Rattle.wal.specs.Replaying.{before, batches_of, ended, segment_of}
 use Rattle.wal.specs.declared.live.StorePrefix.{StorePrefix}

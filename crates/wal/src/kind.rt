@@ -4,6 +4,8 @@ ghost use Rattle.hse_fields.specs.LogText.{code};
 ghost use Rattle.hse_fields.specs.LogReading.{kind_with};
 ghost use Rattle.wal.specs.Given.{kind_as};
 
+use hse_fields::{DELETION, PREFIX_DELETE, PUT};
+
 #[derive(Clone, Copy)]
 pub(crate) enum Kind {
     Put,
@@ -16,9 +18,9 @@ pub(crate) fn kind_of_byte(byte: u8) -> Option<Kind>
     ensures { option_map kind_as result ≡ kind_with byte }
 {
     match byte {
-        1 => Some(Kind::Put),
-        2 => Some(Kind::Del),
-        3 => Some(Kind::PDel),
+        PUT => Some(Kind::Put),
+        DELETION => Some(Kind::Del),
+        PREFIX_DELETE => Some(Kind::PDel),
         _ => None,
     }
 }
@@ -29,9 +31,9 @@ impl Kind {
         ensures { result ≡ code (kind_as self) }
     {
         match self {
-            Kind::Put => 1,
-            Kind::Del => 2,
-            Kind::PDel => 3,
+            Kind::Put => PUT,
+            Kind::Del => DELETION,
+            Kind::PDel => PREFIX_DELETE,
         }
     }
 }

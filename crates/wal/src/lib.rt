@@ -19,7 +19,7 @@ mod replay;
 mod segment;
 
 pub use commit::Commit;
-pub use encode::encode_batch;
+pub use encode::{encode_batch, put_entry};
 pub use laws::{
     charge_is_length, commits_are_a_payload, encoded_is_replayed, entries_follow_the_numbers,
     later_taken_numbers_change_nothing, one_batch_more, one_replay, replayed_is_a_run,
@@ -27,6 +27,3 @@ pub use laws::{
 pub use live::StorePrefix;
 pub use replay::segment_in;
 pub use segment::{Segment, SegmentFault};
-
-#[cfg(test)]
-mod tests;

@@ -3,7 +3,7 @@ use Rattle.std.proofs.lemmas.Result.{err_from_is_err_and}
 use Rattle.std.proofs.lemmas.List.{map_push}
 use Rattle.hse_fields.specs.LogText.{Change, change_text}
 use Rattle.hse_fields.specs.LogReading.{change_of, more_changes_of}
-use Rattle.hse_fields.specs.PayloadLaws.{more_changes_take}
+use Rattle.hse_fields.specs.laws.AllChanges.{more_changes_take}
 use Rattle.wal.specs.Given.{Fails}
 use Rattle.wal.specs.Live.{prefix_fits}
 use Rattle.wal.specs.Logged.{logged, logged_all}

@@ -1,6 +1,6 @@
 use Rattle.std.proofs.Common.{◌≡◌, ◌+◌, ◌-◌, ℕ, List, Ok, ap, sym, ◌∙◌, arith}
-use Rattle.hse_fields.specs.FieldLaws.{width_8, number_takes}
-use Rattle.hse_fields.specs.PayloadLaws.{entry}
+use Rattle.hse_fields.specs.laws.Fields.{width_8, number_takes}
+use Rattle.hse_fields.specs.laws.Payloads.{entry}
 use Rattle.wal.specs.Expected.{numbers_as}
 use Rattle.wal.specs.Logged.{charge, logged_all}
 use Rattle.wal.specs.Numbering.{Numbers, taken_from}

@@ -1,4 +1,4 @@
-use Rattle.hse_fields.specs.PayloadLaws.{payload_again}
+use Rattle.hse_fields.specs.laws.Payloads.{payload_again}
 use Rattle.wal.specs.Numbering.{numbering}
 use Rattle.wal.specs.NumberingLaws.{run_follows}
 use Rattle.wal.proofs.laws.encoded_is_replayed.Goals as goal

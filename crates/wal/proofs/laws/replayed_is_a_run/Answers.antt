@@ -1,4 +1,4 @@
-use Rattle.hse_fields.specs.FollowLaws.{payload_follows}
+use Rattle.hse_fields.specs.laws.Follow.{payload_follows}
 use Rattle.wal.specs.BatchLaws.{batches_follow, closed_read}
 use Rattle.wal.specs.Numbered.{untaken}
 use Rattle.wal.specs.Numbering.{numbering}
