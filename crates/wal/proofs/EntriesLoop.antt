@@ -17,7 +17,7 @@ use Rattle.wal.specs.Charges.{charges}
 use Rattle.wal.specs.Given.{Fails, Gives, LiesBehind}
 use Rattle.wal.specs.Logged.{charge}
 use Rattle.wal.specs.Numbering.{Numbers, numbering}
-use Rattle.wal.specs.NumberingLaws.{all_charges}
+use Rattle.wal.specs.laws.Numbering.{all_charges}
 use Rattle.wal.specs.declared.live.StorePrefix.{StorePrefix}
 
 -- what was read before, and what is still read

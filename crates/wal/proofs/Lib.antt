@@ -7,5 +7,3 @@ pub mod LengthLemmas
 pub mod SoundLemmas
 pub mod TextLemmas
 pub mod PayloadLemmas
-pub mod TakenLemmas
-pub mod SegmentLemmas

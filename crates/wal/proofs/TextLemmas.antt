@@ -3,7 +3,7 @@ use Rattle.std.specs.Prelude.{◌≡◌, ℕ, zero, suc, ◌+◌, ◌≤◌, ◌
 use Rattle.std.specs.List.{flat_map}
 use Rattle.std.specs.Prelude.{map, take}
 use Rattle.std.proofs.Common.{refl, sym, ap, subst, ◌∙◌, append_assoc, arith, get_or, length-append}
-use Rattle.std.proofs.lemmas.List.{length-map, append-nil, take_at, get_or-map, take_more, map_push, flat_map_more}
+use Rattle.std.proofs.lemmas.List.{length-map, take_at, get_or-map, take_more, map_push, flat_map_more}
 use Rattle.byteorder.specs.Endian.{big_bytes}
 use Rattle.hse_fields.specs.LogReading.{change}
 use Rattle.hse_fields.specs.LogText.{Kind, put, del, pdel, Change, code, change_text, head_text}

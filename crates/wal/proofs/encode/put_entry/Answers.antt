@@ -1,11 +1,10 @@
-use Rattle.std.proofs.Common.{◌≡◌, ◌∙◌, ◌++◌, [], ℕ, List, length, ap, sym, arith, refl}
-use Rattle.std.specs.List.{flat_map}
-use Rattle.std.proofs.lemmas.List.{length-map, append-nil, take_all}
+use Rattle.std.proofs.Common.{◌≡◌, ◌∙◌, ◌++◌, [], ℕ, length, ap, sym, arith}
+use Rattle.std.proofs.lemmas.List.{length-map}
 use Rattle.byteorder.specs.Endian.{big_bytes}
 use Rattle.hse_fields.specs.LogText.{change_text}
 use Rattle.hse_rows.specs.Change.{change_of, write_of}
 use Rattle.wal.specs.Logged.{logged, logged_all}
-use Rattle.wal.proofs.TextLemmas.{begun, begun-more, count_length, change_some, part_of}
+use Rattle.wal.proofs.TextLemmas.{begun-more, count_length, change_some, part_of}
 use Rattle.wal.proofs.encode.put_entry.Goals as goal
 
 pub overflow_cast-count : goal.overflow_cast-count

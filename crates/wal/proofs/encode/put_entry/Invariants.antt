@@ -1,5 +1,4 @@
-use Rattle.std.proofs.Common.{◌≡◌, ◌++◌, length, take}
-use Rattle.byteorder.specs.Endian.{big_bytes}
+use Rattle.std.proofs.Common.{◌≡◌, length, take}
 use Rattle.wal.specs.Logged.{logged_all}
 use Rattle.wal.proofs.TextLemmas.{begun}
 use Rattle.wal.proofs.encode.put_entry.Given as goal

@@ -8,7 +8,7 @@ use Rattle.hse_fields.specs.LogReading.{◌>>=◌, Follow}
 use Rattle.wal.specs.Expected.{numbers_as}
 use Rattle.wal.specs.Numbering.{Numbers, numbering}
 use Rattle.wal.specs.Replaying.{batches_of, ended}
-use Rattle.wal.specs.BatchLaws.{batches_follow}
+use Rattle.wal.specs.laws.Batches.{batches_follow}
 use Rattle.wal.specs.Logged.{entries_of}
 use Rattle.wal.proofs.SoundLemmas.{numbers_from, counts}
 use Rattle.wal.proofs.replay.segment_in.Goals as goal

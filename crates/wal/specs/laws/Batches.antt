@@ -10,6 +10,7 @@ use Rattle.hse_fields.specs.LogText.{Entry}
 use Rattle.hse_fields.specs.LogReading.{◌>>=◌, payload_of, Follow}
 use Rattle.hse_fields.specs.laws.Fields.{bind_ok, ok_is}
 use Rattle.hse_fields.specs.laws.Follow.{payload_follows, follow-append}
+use Rattle.wal.specs.Batches.{Reads, IsFrontRead}
 use Rattle.wal.specs.Numbering.{Numbers, numbering}
 use Rattle.wal.specs.Replaying.{before, batches_of, ended, segment_of}
 use Rattle.wal.specs.declared.live.StorePrefix.{StorePrefix}
@@ -25,10 +26,6 @@ ok_before end r x e = rw e refl
 abbrev others_of : List StorePrefix → ℕ → ℕ → List (List ℕ) → List Entry × Numbers → Result (List Entry × Numbers) ℕ
 others_of live most gate payloads first =
     batches_of live most first.1 gate payloads >>= λ others. Ok (first.0 ++ others.0, others.1)
-
--- what was read of batches, the first of which stands anywhere
-abbrev pub Reads : List StorePrefix → ℕ → Numbers → List (List ℕ) → List Entry × Numbers → Type 0
-Reads live most state payloads read = (gate : ℕ) → batches_of live most state gate payloads ≡ Ok read
 
 -- a batch in front of others
 pub reads_first : (live : List StorePrefix) (most : ℕ) (state : Numbers) (payload : List ℕ) (payloads : List (List ℕ))
@@ -146,7 +143,7 @@ batches_follow live most state gate (payload ∷ payloads) x e =
 
 -- ---- segments
 
-no_ok : (place : ℕ) (x : List Entry × Numbers) → Err place ≡ Ok x → ⊥
+pub no_ok : (place : ℕ) (x : List Entry × Numbers) → Err place ≡ Ok x → ⊥
 no_ok place x e = cc
 
 -- a segment that was read ends in a closed gate
@@ -158,16 +155,6 @@ closed_read live most start payloads (Closed tail) x e =
 closed_read live most start payloads (CutOff place) x e =
     let a = bind_ok (batches_of live most start 9 payloads) (ended (CutOff place)) x e in
     absurd (no_ok place x a.2)
-
--- what was read of a front of a segment's batches, and of the others behind it
-pub record IsFrontRead (live : List StorePrefix) (most : ℕ) (start : Numbers) (payloads others : List (List ℕ))
-    (entries : List Entry) (last : Numbers) : Type 0 where
-  pub front : List Entry
-  pub middle : Numbers
-  pub behind : List Entry
-  pub front_read : (tail : Tail) → segment_of live most start payloads (Closed tail) ≡ Ok (front, middle)
-  pub behind_read : Reads live most middle others (behind, last)
-  pub joined : entries ≡ front ++ behind
 
 pub front_is_read : (live : List StorePrefix) (most : ℕ) (start : Numbers) (payloads others : List (List ℕ)) (end : End)
     (entries : List Entry) (last : Numbers) → segment_of live most start (payloads ++ others) end ≡ Ok (entries, last)

@@ -1,5 +1,5 @@
-use Rattle.wal.specs.BatchLaws.{front_is_read, more_is_read}
-use Rattle.wal.proofs.laws.one_batch_more.Goals as goal
+use Rattle.wal.specs.laws.Batches.{front_is_read, more_is_read}
+use Rattle.wal.proofs.segment_laws.one_batch_more.Goals as goal
 
 pub returns-clause-more : goal.returns-clause-more
 returns-clause-more c = more_is_read

@@ -1,5 +1,5 @@
 use Rattle.wal.proofs.PayloadLemmas.{payload_formed}
-use Rattle.wal.proofs.laws.commits_are_a_payload.Goals as goal
+use Rattle.wal.proofs.text_laws.commits_are_a_payload.Goals as goal
 
 pub returns : goal.returns
 returns c = payload_formed

@@ -1,8 +1,7 @@
 use Rattle.std.proofs.Common.{ℕ, ◌≤◌}
 use Rattle.std.proofs.lemmas.List.Elements.{recursion_from_All}
-use Rattle.wal.proofs.SegmentLemmas.{segment_more}
-use Rattle.wal.proofs.TakenLemmas.{follow_more}
-use Rattle.wal.proofs.laws.later_taken_numbers_change_nothing.Goals as goal
+use Rattle.wal.specs.laws.MoreTaken.{follow_more, segment_more}
+use Rattle.wal.proofs.number_laws.later_taken_numbers_change_nothing.Goals as goal
 
 pub returns-clause-follow : goal.returns-clause-follow
 returns-clause-follow c = λ live state last entries more follow all.

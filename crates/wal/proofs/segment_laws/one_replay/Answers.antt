@@ -7,7 +7,7 @@ use Rattle.wal.specs.Charges.{charges}
 use Rattle.wal.specs.Logged.{entries_of}
 use Rattle.wal.specs.Numbering.{Numbers}
 use Rattle.wal.specs.Replaying.{segment_of}
-use Rattle.wal.proofs.laws.one_replay.Goals as goal
+use Rattle.wal.proofs.segment_laws.one_replay.Goals as goal
 
 same_closed : (a b : Tail) → Closed a ≡ Closed b → a ≡ b
 same_closed a b e = cc

@@ -1,21 +1,74 @@
--- What is read of a segment is read so too where more numbers are taken behind the others.
-use Rattle.std.proofs.Common.{◌≡◌, ℕ, zero, suc, ◌+◌, ◌≤◌, ◌==◌, true, false, Bool, List, [], ◌∷◌, length, Some, None, Result, Ok, Err, refl, sym, ap, subst, ◌∙◌, cond, arith}
-use Rattle.std.specs.Prelude.{is_some, nat_lt}
+-- Entries follow one another, and a segment is read, also where more numbers are taken behind the others.
+use Rattle.std.proofs.Common.{◌≡◌, ℕ, zero, suc, ◌+◌, ◌≤◌, ◌<◌, ◌-◌, ◌==◌, true, false, Bool, List, [], ◌∷◌, ◌++◌, ◌&&◌, inl, inr, length, Some, None, Result, Ok, Err, refl, sym, ap, subst, ◌∙◌, cond, arith}
+use Rattle.std.specs.Prelude.{is_some, nat_lt, nat_le}
+use Rattle.std.specs.List.{AllByRecursion}
 use Rattle.gate_log.specs.declared.front.End.TheVariants.{Closed}
 use Rattle.gate_log.specs.declared.region.Tail.{Tail}
 use Rattle.hse_fields.specs.LogText.{Change, Entry}
-use Rattle.hse_fields.specs.LogReading.{◌>>=◌, ensure, given, number_of, changes_of, any_changes_of, Rule, comes_with, has_room, entry_of, entries_of, payload_of}
+use Rattle.hse_fields.specs.LogReading.{◌>>=◌, ensure, given, number_of, changes_of, any_changes_of, comes_with, has_room, entry_of, entries_of, payload_of, Follow}
 use Rattle.hse_fields.specs.laws.Fields.{bind_ok, ensure_ok, given_ok, ok_is}
+use Rattle.hse_fields.specs.laws.Prefixes.{entry_reads, entries_read, payload_reads}
 use Rattle.hse_fields.specs.laws.Payloads.{entry, from_changes, from_room, from_next, from_number, other_entries_of, ended_of}
-use Rattle.wal.specs.BatchLaws.{Reads, first_of, none_read, reads_none, reads_first, batches_follow, closed_read}
+use Rattle.wal.specs.Batches.{Reads}
+use Rattle.wal.specs.laws.Batches.{first_of, none_read, reads_none, reads_first, batches_follow, closed_read}
 use Rattle.wal.specs.Live.{prefix_fits}
 use Rattle.wal.specs.Logged.{charge}
-use Rattle.wal.specs.Numbering.{Numbers, is_next, after, numbering}
-use Rattle.wal.specs.NumberingLaws.{known_after}
+use Rattle.wal.specs.Numbering.{Numbers, free_from, taken_from, last_number, is_next, after, numbering}
+use Rattle.wal.specs.laws.Numbering.{known_after, came, comes, number_is}
 use Rattle.wal.specs.Replaying.{batches_of, segment_of}
 use Rattle.wal.specs.Taken.{with_taken}
 use Rattle.wal.specs.declared.live.StorePrefix.{StorePrefix}
-use Rattle.wal.proofs.TakenLemmas.{AreFrom, lower, follow_grows, follow_more}
+use Rattle.wal.specs.laws.Free.{place, is_above, through}
+use Rattle.wal.specs.laws.Taken.{AreFrom, lower, follow_grows}
+
+-- ---- more taken numbers
+
+free_more : (next : ℕ) (ts more : List ℕ) → AllByRecursion (λ (t : ℕ). free_from next ts < t) more → free_from next (ts ++ more) ≡ free_from next ts
+free_more next [] [] above = refl
+free_more next [] (m ∷ ms) above = (is_above next m above.0).free ms
+free_more next (t ∷ ts) more above =
+    elim (place next t) [
+      | inl a ↦ a.free (ts ++ more) ∙ sym (a.free ts)
+      | inr p ↦
+          let behind = subst (λ (n : ℕ). AllByRecursion (λ (u : ℕ). n < u) more) (p.free ts) above in
+          p.free (ts ++ more) ∙ free_more p.from ts more behind ∙ sym (p.free ts)
+    ]
+
+taken_more : (next : ℕ) (ts more : List ℕ) → AllByRecursion (λ (t : ℕ). free_from next ts < t) more
+    → taken_from next (ts ++ more) ≡ taken_from next ts ++ more
+taken_more next [] [] above = refl
+taken_more next [] (m ∷ ms) above = (is_above next m above.0).taken ms
+taken_more next (t ∷ ts) more above =
+    elim (place next t) [
+      | inl a ↦ a.taken (ts ++ more) ∙ ap (λ (l : List ℕ). l ++ more) (sym (a.taken ts))
+      | inr p ↦
+          let behind = subst (λ (n : ℕ). AllByRecursion (λ (u : ℕ). n < u) more) (p.free ts) above in
+          p.taken (ts ++ more) ∙ taken_more p.from ts more behind ∙ ap (λ (l : List ℕ). l ++ more) (sym (p.taken ts))
+    ]
+
+all_above : (n high : ℕ) (more : List ℕ) → n < high → AreFrom high more → AllByRecursion (λ (t : ℕ). n < t) more
+all_above n high [] lt from = tt
+all_above n high (m ∷ ms) lt from = (through n high m lt from.0, all_above n high ms lt from.1)
+
+pub follow_more : (live : List StorePrefix) (state last : Numbers) (es : List Entry) (more : List ℕ) → AllByRecursion (λ (t : ℕ). last.next ≤ t) more
+    → Follow (numbering live) state es last → Follow (numbering live) (with_taken state more) es (with_taken last more)
+follow_more live state last [] more all follow = ap (λ (s : Numbers). with_taken s more) follow
+follow_more live state last (e ∷ es) more all follow =
+    let c = came state follow.1 e follow.2 in
+    let fits : charge e ≤ state.room = c.fits in
+    let number : e.number ≡ free_from state.next state.taken = number_is state e.number follow.0 in
+    let next : e.number + 1 ≡ follow.1.next = ap (λ (n : Numbers). n.next) c.is in
+    let grows : follow.1.next ≤ last.next = follow_grows live follow.1 last es follow.3 in
+    let behind : e.number < last.next = omega (arith, next, grows) in
+    let above = all_above (free_from state.next state.taken) last.next more (subst (λ (n : ℕ). n < last.next) number behind) all in
+    let first : is_next (with_taken state more) e.number ≡ true =
+    ap (λ (n : ℕ). (e.number == n) && nat_le e.number last_number) (free_more state.next state.taken more above) ∙ follow.0 in
+    let same : known_after (with_taken state more) e ≡ with_taken follow.1 more =
+    ap (λ (ts : List ℕ). record { next = e.number + 1; taken = ts; room = state.room - charge e }) (taken_more state.next state.taken more above)
+    ∙ ap (λ (s : Numbers). with_taken s more) c.is in
+    let comes_too : after (with_taken state more) e ≡ Some (with_taken follow.1 more) =
+    comes (with_taken state more) e fits ∙ ap (λ (s : Numbers). Some s) same in
+    (first, with_taken follow.1 more, comes_too, follow_more live follow.1 last es more all follow.3)
 
 -- ---- the room does not depend on the taken numbers
 
@@ -36,13 +89,6 @@ unfolding has_room
 same_room live state more number bytes = same_told live state more number (any_changes_of bytes)
 
 -- ---- one entry
-
-entry_reads : {S : Type 0} (rule : Rule S) (most : ℕ) (state next : S) (bytes : List ℕ) (number : ℕ) (behind : List ℕ) (changes : List Change)
-    (rest : List ℕ) → number_of 8 bytes ≡ Ok (number, behind) → rule.number_fits state number ≡ true → has_room rule state number behind ≡ true
-    → changes_of rule.prefix_fits most behind ≡ Ok (changes, rest) → rule.after state (entry number changes) ≡ Some next
-    → entry_of rule most state bytes ≡ Ok ((entry number changes, next), rest)
-unfolding entry_of
-entry_reads rule most state next bytes number behind changes rest first fits room read comes = rw (first, fits, room, read, comes) refl
 
 record EntryAgain (live : List StorePrefix) (most : ℕ) (state : Numbers) (bytes : List ℕ) (x : (Entry × Numbers) × List ℕ) : Type 0 where
   grows : state.next ≤ x.0.1.next
@@ -88,13 +134,6 @@ record EntriesAgain (live : List StorePrefix) (most : ℕ) (state : Numbers) (n 
       (more : List ℕ) → AreFrom x.0.1.next more
       → entries_of (numbering live) most (with_taken state more) n bytes ≡ Ok ((x.0.0, with_taken x.0.1 more), x.1)
 
-entries_read : {S : Type 0} (rule : Rule S) (most : ℕ) (state next last : S) (n : ℕ) (bytes : List ℕ) (e : Entry) (es : List Entry)
-    (behind rest : List ℕ)
-    → entry_of rule most state bytes ≡ Ok ((e, next), behind) → entries_of rule most next n behind ≡ Ok ((es, last), rest)
-    → entries_of rule most state (suc n) bytes ≡ Ok ((e ∷ es, last), rest)
-unfolding entries_of
-entries_read rule most state next last n bytes e es behind rest first others = rw (first, others) refl
-
 entries_again : (live : List StorePrefix) (most : ℕ) (state : Numbers) (n : ℕ) (bytes : List ℕ) (x : (List Entry × Numbers) × List ℕ)
     → entries_of (numbering live) most state n bytes ≡ Ok x → EntriesAgain live most state n bytes x
 unfolding entries_of
@@ -118,12 +157,6 @@ entries_again live most state (suc n) bytes x e =
     })
 
 -- ---- batches
-
-payload_reads : {S : Type 0} (rule : Rule S) (most : ℕ) (state : S) (bytes : List ℕ) (n : ℕ) (behind : List ℕ) (read : List Entry × S) (rest : List ℕ)
-    → number_of 4 bytes ≡ Ok (n, behind) → nat_lt 0 n ≡ true → entries_of rule most state n behind ≡ Ok (read, rest)
-    → (length rest == 0) ≡ true → payload_of rule most state bytes ≡ Ok read
-unfolding payload_of
-payload_reads rule most state bytes n behind read rest first some others ended = rw (first, some, others, ended) refl
 
 payload_more : (live : List StorePrefix) (most : ℕ) (state : Numbers) (bytes : List ℕ) (x : List Entry × Numbers) (more : List ℕ)
     → AreFrom x.1.next more → payload_of (numbering live) most state bytes ≡ Ok x

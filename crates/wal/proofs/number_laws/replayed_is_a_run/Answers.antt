@@ -1,9 +1,9 @@
 use Rattle.hse_fields.specs.laws.Follow.{payload_follows}
-use Rattle.wal.specs.BatchLaws.{batches_follow, closed_read}
+use Rattle.wal.specs.laws.Batches.{batches_follow, closed_read}
 use Rattle.wal.specs.Numbered.{untaken}
 use Rattle.wal.specs.Numbering.{numbering}
-use Rattle.wal.specs.NumberingLaws.{follow_run}
-use Rattle.wal.proofs.laws.replayed_is_a_run.Goals as goal
+use Rattle.wal.specs.laws.Numbering.{follow_run}
+use Rattle.wal.proofs.number_laws.replayed_is_a_run.Goals as goal
 
 pub returns-clause-payload : goal.returns-clause-payload
 returns-clause-payload c = λ live most next room bytes entries last e.

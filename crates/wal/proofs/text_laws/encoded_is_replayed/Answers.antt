@@ -1,7 +1,7 @@
 use Rattle.hse_fields.specs.laws.Payloads.{payload_again}
 use Rattle.wal.specs.Numbering.{numbering}
-use Rattle.wal.specs.NumberingLaws.{run_follows}
-use Rattle.wal.proofs.laws.encoded_is_replayed.Goals as goal
+use Rattle.wal.specs.laws.Numbering.{run_follows}
+use Rattle.wal.proofs.text_laws.encoded_is_replayed.Goals as goal
 
 pub returns-clause-replayed : goal.returns-clause-replayed
 returns-clause-replayed c = λ live most state last entries small formed follow fits.
