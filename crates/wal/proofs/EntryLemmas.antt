@@ -4,7 +4,8 @@ use Rattle.std.specs.Prelude.{is_some, nat_lt, nat_le}
 use Rattle.std.proofs.lemmas.Bool.{cases_lt, and_from, le-leb, lt-leb, eq-eqb, lt-ltb, le-ltb}
 use Rattle.hse_fields.specs.LogText.{Change, Entry}
 use Rattle.hse_fields.specs.LogLimits.{longest_value}
-use Rattle.hse_fields.specs.LogReading.{◌>>=◌, ensure, number_of, changes_of, has_room, entry_of}
+use Rattle.hse_fields.specs.Fields.{number_of}
+use Rattle.hse_fields.specs.LogReading.{◌>>=◌, ensure, changes_of, has_room, entry_of}
 use Rattle.hse_fields.specs.laws.Fields.{IsBytes}
 use Rattle.hse_fields.specs.laws.AllChanges.{any_changes_too}
 use Rattle.hse_fields.specs.laws.Payloads.{entry, from_changes, room_is}

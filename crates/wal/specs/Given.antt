@@ -17,11 +17,6 @@ abbrev pub Gives : {X Y : Type 0} → (X → Y) → Result X Refusal → Result 
 Gives view (Ok x) read = read ≡ Ok (view x)
 Gives view (Err refusal) read = Fails refusal read
 
--- the refused field is no more than 4 bytes before the last n, where the batch's length stands
-abbrev pub LiesBehind : ℕ → Refusal → Type 0
-LiesBehind n (Left left) = left ≤ 4 + n
-LiesBehind n NoMemory = Unit {0}
-
 abbrev pub kind_as : Kind → log.Kind
 kind_as Put = log.put
 kind_as Del = log.del

@@ -4,8 +4,8 @@ ghost use Rattle.gate_log.specs.Reading.{payloads_of, IsFront, LiesInside};
 ghost use Rattle.wal.specs.Replaying.{segment_of, starting, IsReplay, Says};
 ghost use Rattle.wal.specs.Sound.{IsSound};
 
-use crate::batches::batches_at;
 use crate::expected::Expected;
+use crate::reader::Reader;
 use crate::{Segment, SegmentFault, StorePrefix};
 use gate_log::{End, Front};
 use std::alloc::Global;
@@ -27,13 +27,13 @@ const END: u64 = 64;
 ///
 /// The conditions: the batches lie inside a region of this size, and the first number is at most
 /// 2^62 + 1.
-pub fn segment_in(
+pub fn segment_in<'a>(
     alloc: Global,
     size: u64,
     most: u64,
     next: u64,
-    taken: &[u64],
-    live: &[StorePrefix],
+    taken: &'a [u64],
+    live: &'a [StorePrefix],
     front: Front,
 ) -> Result<Segment, SegmentFault>
     requires inside { LiesInside size (payloads_of front.batches.items) front.end }
@@ -49,8 +49,14 @@ pub fn segment_in(
     ensures sound { IfOk result (IsSound size next taken.now live.now front) }
 {
     let room = size.saturating_sub(END);
-    let expected = Expected { next, taken, room };
-    let (commits, last) = batches_at(alloc, most, live, expected, &front.batches)?;
+    let reader = Reader {
+        alloc,
+        bytes: &[],
+        most,
+        live,
+        expected: Expected { next, taken, room },
+    };
+    let (commits, last) = reader.batches(&front.batches)?;
     match front.end {
         End::CutOff(place) => Err(SegmentFault::Damaged(place)),
         End::Closed(tail) => Ok(Segment {

@@ -12,7 +12,8 @@ use Rattle.hse_fields.specs.LogText.{Kind, put, del, pdel, Change, code, sized, 
 use Rattle.hse_fields.specs.LogOrder.{rank, may_follow, kind_may_follow, store_may_follow}
 use Rattle.hse_fields.specs.LogLimits.{longest_value}
 use Rattle.hse_fields.specs.LogForm.{longest_name, ValueFits, IsChange}
-use Rattle.hse_fields.specs.LogReading.{◌>>=◌, ensure, given, number_of, bytes_of, kind_with, kind_of, value_of, change, name_may_follow, name_in_limits, name_fits, name_of, change_of, PrefixFits}
+use Rattle.hse_fields.specs.Fields.{number_of, bytes_of}
+use Rattle.hse_fields.specs.LogReading.{◌>>=◌, ensure, given, kind_with, kind_of, value_of, change, name_may_follow, name_in_limits, name_fits, name_of, change_of, PrefixFits}
 use Rattle.hse_fields.specs.laws.Fields.{IsBytes, bind_ok, ensure_ok, given_ok, ok_is, Takes, Takes-then, width_1, width_2, width_4, width_8, number_takes, number_again, bytes_takes, bytes_again, behind_size, sized_takes, sized_again}
 use Rattle.hse_fields.specs.laws.Order.{or_right, kind_follows, store_follows, may_follow-value}
 

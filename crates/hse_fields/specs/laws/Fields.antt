@@ -7,7 +7,8 @@ use Rattle.std.proofs.lemmas.Nat.{be_bytes_2, be_bytes_4, be_bytes_8}
 use Rattle.byteorder.specs.Endian.{big_bytes, big_number}
 use Rattle.byteorder.specs.Numbers.{length-bytes_high_first, big_number-reads_back, big_from-lt}
 use Rattle.hse_fields.specs.LogText.{sized}
-use Rattle.hse_fields.specs.LogReading.{◌>>=◌, ensure, given, number_of, bytes_of, size_of, sized_of}
+use Rattle.hse_fields.specs.Fields.{number_of, bytes_of}
+use Rattle.hse_fields.specs.LogReading.{◌>>=◌, ensure, given, size_of, sized_of}
 
 abbrev pub IsBytes : List ℕ → Type 0
 IsBytes bytes = (i : ℕ) → get_or bytes i 0 < 256

@@ -3,7 +3,8 @@
 use Rattle.std.specs.Prelude.{◌≡◌, ℕ, zero, suc, ◌+◌, true, List, [], ◌∷◌, ◌++◌, length, Some, Ok, nat_lt, ◌==◌}
 use Rattle.std.proofs.Common.{refl, sym, subst}
 use Rattle.hse_fields.specs.LogText.{Entry}
-use Rattle.hse_fields.specs.LogReading.{◌>>=◌, ensure, given, number_of, changes_of, Rule, has_room, entry_of, entries_of, payload_of, Follow}
+use Rattle.hse_fields.specs.Fields.{number_of}
+use Rattle.hse_fields.specs.LogReading.{◌>>=◌, ensure, given, changes_of, Rule, has_room, entry_of, entries_of, payload_of, Follow}
 use Rattle.hse_fields.specs.laws.Fields.{bind_ok, ensure_ok, given_ok, ok_is}
 use Rattle.hse_fields.specs.laws.Payloads.{entry, from_changes, from_room, from_next, from_number, other_entries_of, ended_of}
 

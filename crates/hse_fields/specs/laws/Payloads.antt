@@ -7,7 +7,8 @@ use Rattle.std.proofs.lemmas.List.{append-nil, nil_from_length}
 use Rattle.byteorder.specs.Endian.{big_bytes}
 use Rattle.hse_fields.specs.LogText.{Kind, put, del, pdel, Change, Entry, change_text, changes_text, entry_text, payload_text}
 use Rattle.hse_fields.specs.LogForm.{IsChange, AreInOrder, AreChanges, IsEntry, ArePayload}
-use Rattle.hse_fields.specs.LogReading.{◌>>=◌, ensure, given, number_of, change_of, more_changes_of, changes_of, any_changes_of, Rule, has_room, entry_of, entries_of, payload_of, Follow, name_fits, PrefixFits, PrefixesFit}
+use Rattle.hse_fields.specs.Fields.{number_of}
+use Rattle.hse_fields.specs.LogReading.{◌>>=◌, ensure, given, change_of, more_changes_of, changes_of, any_changes_of, Rule, has_room, entry_of, entries_of, payload_of, Follow, name_fits, PrefixFits, PrefixesFit}
 use Rattle.hse_fields.specs.laws.Fields.{IsBytes, bind_ok, ensure_ok, given_ok, ok_is, Takes, Takes-then, width_4, width_8, number_takes, number_again}
 use Rattle.hse_fields.specs.laws.Changes.{change_takes, change_again, change_bounded}
 use Rattle.hse_fields.specs.laws.AllChanges.{changes_take, changes_again, any_changes_again}

@@ -5,7 +5,8 @@ use Rattle.std.specs.List.{AllByRecursion}
 use Rattle.std.proofs.Common.{refl, ap, subst, sym, ◌∙◌}
 use Rattle.hse_fields.specs.LogText.{Kind, Change, Entry}
 use Rattle.hse_fields.specs.LogOrder.{store_may_follow}
-use Rattle.hse_fields.specs.LogReading.{◌>>=◌, ensure, given, number_of, bytes_of, kind_of, value_of, change, name_may_follow, name_in_limits, name_fits, name_of, change_of, more_changes_of, changes_of, any_changes_of, Rule, comes_with, has_room, entry_of, entries_of, payload_of}
+use Rattle.hse_fields.specs.Fields.{number_of, bytes_of}
+use Rattle.hse_fields.specs.LogReading.{◌>>=◌, ensure, given, kind_of, value_of, change, name_may_follow, name_in_limits, name_fits, name_of, change_of, more_changes_of, changes_of, any_changes_of, Rule, comes_with, has_room, entry_of, entries_of, payload_of}
 use Rattle.hse_fields.specs.laws.Fields.{bind_ok, ensure_ok, given_ok, ok_is}
 use Rattle.hse_fields.specs.laws.Changes.{from_value, from_name, from_limits, from_order, from_size, from_store, from_kind}
 use Rattle.hse_fields.specs.laws.Payloads.{entry, from_changes, from_room, from_next, from_number, other_entries_of, ended_of}

@@ -5,7 +5,8 @@ use Rattle.std.proofs.lemmas.List.{length-drop}
 use Rattle.byteorder.specs.Endian.{big_number}
 use Rattle.hse_fields.specs.LogText.{Kind, put, del, pdel, Change}
 use Rattle.hse_fields.specs.LogOrder.{kind_may_follow, store_may_follow}
-use Rattle.hse_fields.specs.LogReading.{◌>>=◌, ensure, given, number_of, bytes_of, size_of, sized_of, kind_with, kind_of, value_of, name_may_follow, name_in_limits, name_fits, name_of, change_of, more_changes_of, changes_of, Rule, has_room, entry_of, entries_of, payload_of}
+use Rattle.hse_fields.specs.Fields.{number_of, bytes_of}
+use Rattle.hse_fields.specs.LogReading.{◌>>=◌, ensure, given, size_of, sized_of, kind_with, kind_of, value_of, name_may_follow, name_in_limits, name_fits, name_of, change_of, more_changes_of, changes_of, Rule, has_room, entry_of, entries_of, payload_of}
 use Rattle.hse_fields.specs.laws.Changes.{from_value, from_name, from_limits, from_order, from_size, from_store, from_kind}
 use Rattle.hse_fields.specs.laws.Payloads.{entry, from_changes, from_room, from_next, from_number}
 

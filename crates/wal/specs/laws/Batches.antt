@@ -16,7 +16,7 @@ use Rattle.wal.specs.Replaying.{before, batches_of, ended, segment_of}
 use Rattle.wal.specs.declared.live.StorePrefix.{StorePrefix}
 
 -- what reading gives does not depend on the place
-before_ok : {A : Type 0} (end : ℕ) (r : Result A ℕ) (x : A) → before end r ≡ Ok x → r ≡ Ok x
+pub before_ok : {A : Type 0} (end : ℕ) (r : Result A ℕ) (x : A) → before end r ≡ Ok x → r ≡ Ok x
 before_ok end (Ok y) x e = e
 before_ok end (Err left) x e = absurd cc
 

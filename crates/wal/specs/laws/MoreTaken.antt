@@ -5,7 +5,8 @@ use Rattle.std.specs.List.{AllByRecursion}
 use Rattle.gate_log.specs.declared.front.End.TheVariants.{Closed}
 use Rattle.gate_log.specs.declared.region.Tail.{Tail}
 use Rattle.hse_fields.specs.LogText.{Change, Entry}
-use Rattle.hse_fields.specs.LogReading.{◌>>=◌, ensure, given, number_of, changes_of, any_changes_of, comes_with, has_room, entry_of, entries_of, payload_of, Follow}
+use Rattle.hse_fields.specs.Fields.{number_of}
+use Rattle.hse_fields.specs.LogReading.{◌>>=◌, ensure, given, changes_of, any_changes_of, comes_with, has_room, entry_of, entries_of, payload_of, Follow}
 use Rattle.hse_fields.specs.laws.Fields.{bind_ok, ensure_ok, given_ok, ok_is}
 use Rattle.hse_fields.specs.laws.Prefixes.{entry_reads, entries_read, payload_reads}
 use Rattle.hse_fields.specs.laws.Payloads.{entry, from_changes, from_room, from_next, from_number, other_entries_of, ended_of}

@@ -1,6 +1,6 @@
 use Rattle.std.proofs.Common.{◌≡◌, ◌+◌, ◌<◌, ◌≤◌, ◌^◌, length}
 use Rattle.wal.specs.Numbering.{free_from, taken_from}
-use Rattle.wal.proofs.expected.free.Given as goal
+use Rattle.wal.proofs.expected.first_free.Given as goal
 
 abbrev pub invariant-loop-rest : goal.invariant-loop-rest
 invariant-loop-rest l = record {
