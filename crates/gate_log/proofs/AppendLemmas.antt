@@ -8,15 +8,16 @@ use Rattle.gate_log.specs.Gates.{Gated, open_gate}
 use Rattle.gate_log.specs.Places.{IsApart, need_of, region_of, tail_of}
 use Rattle.gate_log.specs.declared.region.Region.{Region}
 use Rattle.gate_log.proofs.GateLemmas.{Staged, staged, gated_torn, gate_written, gate_torn}
-use Rattle.gate_log.specs.Ranges.{image_now, torn_twice}
-use Rattle.gate_log.specs.Regions.{image_apart, region_put, region_torn, region_wider}
+use Rattle.gate_log.specs.laws.Ranges.{torn_twice}
+use Rattle.media_disk.specs.laws.Images.{image_now}
+use Rattle.gate_log.specs.laws.Regions.{image_apart, region_put, region_torn, region_wider}
 
 module _ (region : Region) (gate sequence : ℕ) (payloads : List (List ℕ)) (payload : List ℕ) (seen : List ℕ) (pending : List (ℕ × ℕ))
     (gate_is : gate ≡ tail_of payloads) (gated : Gated (region_of region seen) sequence payloads) where
   -- a crash in the first write or its sync
   pub crash_behind : (n : ℕ) → gate + 1 + n ≤ region.size → IsApart region pending → (image : List ℕ)
       → IsTornFrom (region.at + gate + 1) n (IsImage seen pending) image
-      → IsWithin region (IsImage seen pending) image × OldOrNew (region_of region image) sequence payloads payload
+      → IsWithin region (IsImage seen pending) image × OldOrNew sequence payloads payload (region_of region image)
   crash_behind n fits apart image left =
       let torn : Torn (region.at + (gate + 1)) n left.old image =
       subst (λ (i : ℕ). Torn i n left.old image) (let is : region.at + gate + 1 ≡ region.at + (gate + 1) = omega arith in is) left.torn in
@@ -52,7 +53,7 @@ module _ (region : Region) (gate sequence : ℕ) (payloads : List (List ℕ)) (p
     -- a crash in the second write or its sync
     pub crash_at : Torn region.at region.size seen middle → (pending_middle : List (ℕ × ℕ)) → pending_middle ≡ [] → (image : List ℕ)
         → IsTornFrom (region.at + gate) 1 (IsImage middle pending_middle) image
-        → IsWithin region (IsImage seen pending) image × OldOrNew (region_of region image) sequence payloads payload
+        → IsWithin region (IsImage seen pending) image × OldOrNew sequence payloads payload (region_of region image)
     crash_at wider pending_middle durable image left =
         let was : left.old ≡ middle = subst (λ (rs : List (ℕ × ℕ)). IsImage middle rs left.old) durable left.was in
         let torn : Torn (region.at + gate) 1 middle image = subst (λ (l : List ℕ). Torn (region.at + gate) 1 l image) was left.torn in

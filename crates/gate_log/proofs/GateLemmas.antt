@@ -8,7 +8,7 @@ use Rattle.gate_log.specs.Crashes.{OldOrNew}
 use Rattle.gate_log.specs.Framed.{framed}
 use Rattle.gate_log.specs.Gates.{Gated, open_gate, open_part, frame, AreFramed}
 use Rattle.gate_log.specs.Places.{tail_of}
-use Rattle.gate_log.specs.Spelling.{length-open_part, open_part-push, are_framed-push}
+use Rattle.gate_log.specs.laws.Spelling.{length-open_part, open_part-push, are_framed-push}
 
 -- a list by what stands before, at and behind a place
 parts : (xs front rest : List ℕ) (x : ℕ) → xs ≡ front ++ x ∷ rest → xs ≡ (front ++ x ∷ []) ++ rest
@@ -108,7 +108,7 @@ gate_written sequence payloads payload region stands =
 
 -- a crash in the write of the gate leaves it open or closed
 pub gate_torn : (sequence : ℕ) (payloads : List (List ℕ)) (payload region new : List ℕ) → Staged region sequence payloads payload
-    → Torn (tail_of payloads) 1 region new → OldOrNew new sequence payloads payload
+    → Torn (tail_of payloads) 1 region new → OldOrNew sequence payloads payload new
 gate_torn sequence payloads payload region new stands torn =
     let known = gate_at sequence payloads payload region stands in
     let front = open_part sequence payloads in
@@ -122,5 +122,5 @@ gate_torn sequence payloads payload region new stands torn =
     sym (take-append-drop place new) ∙ ap (λ (l : List ℕ). l ++ drop place new) (torn.before ∙ known.0) ∙ ap (λ (l : List ℕ). front ++ l) rest_is in
     elim (cases_eq gate open_gate) [
       | inl is_open ↦ inr (gated_new sequence payloads payload region new stands (whole ∙ ap (λ (g : ℕ). front ++ g ∷ behind) is_open))
-      | inr shut ↦ inl (record { gate = gate; rest = behind; closed = shut; spelled = whole; framed = stands.framed; sequence_fits = stands.sequence_fits })
+      | inr differs ↦ inl (record { gate = gate; rest = behind; closed = differs; spelled = whole; framed = stands.framed; sequence_fits = stands.sequence_fits })
     ]

@@ -7,7 +7,7 @@ use Rattle.byteorder.specs.Endian.{big_bytes, big_number}
 use Rattle.byteorder.specs.Numbers.{big_from-take}
 use Rattle.gate_log.specs.Gates.{Gated, open_gate, open_part, AreFramed}
 use Rattle.gate_log.specs.Places.{tail_of}
-use Rattle.gate_log.specs.Spelling.{length-open_part}
+use Rattle.gate_log.specs.laws.Spelling.{length-open_part}
 
 front_small : (front rest : List ℕ) → ((i : ℕ) → get_or (front ++ rest) i 0 < 256) → (i : ℕ) → get_or front i 0 < 256
 front_small front rest small i = elim (cases_lt i (length front)) [
@@ -35,9 +35,9 @@ begins (gate ∷ rest) sequence long small is_open reads =
 pub ends : (region rest : List ℕ) (sequence : ℕ) (payloads : List (List ℕ)) → region ≡ open_part sequence payloads ++ rest → AreFramed payloads
     → 0 < length rest → (get_or rest 0 0 ≡ open_gate → ⊥) → sequence < 2 ^ 64
     → Gated region sequence payloads × (length region - length rest ≡ tail_of payloads)
-ends region [] sequence payloads spelled framed some shut fits = absurd (omega arith)
-ends region (gate ∷ rest) sequence payloads spelled framed some shut fits = (
-  record { gate = gate; rest = rest; closed = shut; spelled = spelled; framed = framed; sequence_fits = fits },
+ends region [] sequence payloads spelled framed some differs fits = absurd (omega arith)
+ends region (gate ∷ rest) sequence payloads spelled framed some differs fits = (
+  record { gate = gate; rest = rest; closed = differs; spelled = spelled; framed = framed; sequence_fits = fits },
   omega (arith, ap length spelled, length-append (open_part sequence payloads) (gate ∷ rest), length-open_part sequence payloads),
 )
 

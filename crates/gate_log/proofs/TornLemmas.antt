@@ -7,7 +7,8 @@ use Rattle.std.specs.List.{range_with_len}
 use Rattle.media_disk.specs.Content.{Torn}
 use Rattle.media_disk.specs.Images.{IsImage}
 use Rattle.gate_log.specs.Crashes.{IsTornFrom}
-use Rattle.gate_log.specs.Ranges.{torn_same, torn_twice, torn_at, torn_from, image_now}
+use Rattle.gate_log.specs.laws.Ranges.{torn_twice, torn_at, torn_from}
+use Rattle.media_disk.specs.laws.Images.{torn_same, image_now}
 
 -- bytes of a in the range, and of b elsewhere
 abbrev mixed : ℕ → ℕ → List ℕ → List ℕ → ℕ → ℕ

@@ -8,6 +8,18 @@ use Rattle.std.specs.Prelude.{◌≡◌, ◌≢◌, ℕ, ◌+◌, ◌^◌, ◌<�
 use Rattle.std.specs.List.{AllByRecursion}
 use Rattle.byteorder.specs.Endian.{big_bytes, big_number}
 
+-- the place of the first batch's gate
+abbrev pub first_gate : ℕ
+first_gate = 9
+
+-- the least size of a region
+abbrev pub least_size : ℕ
+least_size = 10
+
+-- what a batch takes beside its payload: its gate and its length
+abbrev pub frame_size : ℕ
+frame_size = 5
+
 -- An open gate. Every other byte is a closed one, and a closed one is written as 0.
 abbrev pub open_gate : ℕ
 open_gate = 79
@@ -34,13 +46,13 @@ pub record Gated (region : List ℕ) (sequence : ℕ) (payloads : List (List ℕ
   pub sequence_fits : sequence < 2 ^ 64
 
 -- The region's head is closed, so it holds nothing.
-abbrev pub IsShut : List ℕ → Type 0
-IsShut [] = Unit {0}
-IsShut (gate ∷ rest) = gate ≢ open_gate
+abbrev pub IsClosed : List ℕ → Type 0
+IsClosed [] = Unit {0}
+IsClosed (gate ∷ rest) = gate ≢ open_gate
 
 -- Behind an open gate the length, the payload or the next gate does not lie inside the region.
 abbrev pub IsCutOff : List ℕ → Type 0
-IsCutOff rest = length rest < 5 + big_number 4 rest
+IsCutOff rest = length rest < frame_size + big_number 4 rest
 
 -- The region holds these batches, and behind them stands an open gate whose batch is cut off. At this
 -- place stands the length of that batch.

@@ -1,10 +1,7 @@
 pub mod Framed
 pub mod Gates
 pub mod Places
+pub mod Answers
 pub mod Crashes
-pub mod Spelling
 pub mod Reading
-pub mod OneReading
-pub mod OneFront
-pub mod Ranges
-pub mod Regions
+pub mod laws

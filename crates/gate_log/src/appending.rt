@@ -1,15 +1,14 @@
 //! Adds a batch to a region.
-ghost use Rattle.std.specs.Prelude.{◌≡◌, ◌+◌, ◌-◌, ◌^◌, ◌<◌, ◌≤◌, ℕ, List, [], ◌∷◌, ◌++◌, length, OnOk, OnErr, IsErrOf};
-ghost use Rattle.hse_io.specs.Faults.{Rose};
+ghost use Rattle.std.specs.Prelude.{◌≡◌, ◌<◌, ℕ, List, [], ◌∷◌, ◌++◌, OnOk};
+ghost use Rattle.media_disk.specs.Calls.{CallsMade};
 ghost use Rattle.media_disk.specs.Content.{Torn};
-ghost use Rattle.media_disk.specs.Images.{IsImage};
-ghost use Rattle.media_disk.specs.Leaves.{Leaves};
+ghost use Rattle.gate_log.specs.Answers.{IsAppendAnswer, AppendReports};
 ghost use Rattle.gate_log.specs.Gates.{Gated};
-ghost use Rattle.gate_log.specs.Places.{region_of, need_of, tail_of, room_of, IsApart};
-ghost use Rattle.gate_log.specs.Crashes.{IsWithin, OldOrNew};
+ghost use Rattle.gate_log.specs.Places.{region_of, tail_of, IsApart, LiesIn};
+ghost use Rattle.gate_log.specs.Crashes.{LeavesRegion, OldOrNew};
 
 use crate::gate::OPEN;
-use crate::through::write_and_sync;
+use crate::synced_write::write_and_sync;
 use crate::{Batch, Region, Tail};
 use media_disk::{Disk, Failed};
 use thiserror::Error;
@@ -48,54 +47,34 @@ pub fn append<D: Disk>(
     tail: &mut Tail,
     batch: &Batch,
 ) -> Result<(), AppendFault>
-    requires inside { region.now.at + region.now.size ≤ D.extent disk.old }
-    requires fits { region.now.at + region.now.size < 2 ^ 64 }
-    requires tail { tail.old.gate < region.now.size }
+    requires inside { LiesIn region.now (D.extent disk.old) }
+    requires tail { tail.old.place < region.now.size }
 
-    ensures tail { OnOk result (tail.new.gate ≡ tail.old.gate + need_of batch.now) }
-    ensures inside { OnOk result (tail.new.gate < region.now.size) }
-    ensures tail_err { OnErr result (tail.new ≡ tail.old) }
-
-    // It is full exactly where the batch does not fit, and then nothing was done.
-    ensures full { room_of region.now tail.old < need_of batch.now
-        → IsErrOf result (AppendFault.Full (need_of batch.now) (room_of region.now tail.old)) }
-    ensures full_only { (need room : ℕ) → IsErrOf result (AppendFault.Full need room)
-        → (room_of region.now tail.old < need_of batch.now) × (disk.new ≡ disk.old) }
-    ensures device { IsErrOf result AppendFault.Device
-        → Rose (D.faults disk.old) (D.faults disk.new) }
-    ensures later { D.faults disk.old ≤ D.faults disk.new }
-    ensures quiet { OnOk result (D.faults disk.new ≡ D.faults disk.old) }
-    // The device is not called again once it failed.
-    ensures last { IsErrOf result AppendFault.Device → D.failed_at disk.new ≡ D.moment disk.new }
+    ensures answer { IsAppendAnswer region.now tail.old tail.new batch.now result }
+    ensures calls { CallsMade D.Device disk.old disk.new }
+    ensures reports { AppendReports D.Device disk.old disk.new result }
     ensures extent { D.extent disk.new ≡ D.extent disk.old }
-    ensures clock { D.moment disk.old ≤ D.moment disk.new }
-
     ensures appended { D.tells → OnOk result ((sequence : ℕ) (payloads : List (List ℕ))
-        → tail.old.gate ≡ tail_of payloads
+        → tail.old.place ≡ tail_of payloads
         → Gated (region_of region.now (D.seen disk.old)) sequence payloads
         → Gated (region_of region.now (D.seen disk.new)) sequence (payloads ++ batch.now ∷ [])) }
     ensures others { D.tells
         → Torn region.now.at region.now.size (D.seen disk.old) (D.seen disk.new) }
     ensures durable { D.tells → OnOk result (D.pending disk.new ≡ []) }
-
-    // A crash at any moment within leaves the old batches, or the old ones and the new one, and all
-    // else as it was.
     ensures crash { D.tells → (sequence : ℕ) (payloads : List (List ℕ))
-        → tail.old.gate ≡ tail_of payloads
+        → tail.old.place ≡ tail_of payloads
         → Gated (region_of region.now (D.seen disk.old)) sequence payloads
         → IsApart region.now (D.pending disk.old)
-        → Leaves (D.moment disk.old) (D.could disk.old) (D.could disk.new)
-        (λ image. IsWithin region.now (IsImage (D.seen disk.old) (D.pending disk.old)) image
-        × OldOrNew (region_of region.now image) sequence payloads batch.now) }
+        → LeavesRegion D.Device region.now disk.old disk.new (OldOrNew sequence payloads batch.now) }
 {
     let need = batch.need();
-    let room = region.size - (tail.gate + 1);
+    let room = region.size - (tail.place + 1);
     if room < need {
         return Err(AppendFault::Full(need, room));
     }
-    let gate = region.at + tail.gate;
+    let gate = region.at + tail.place;
     write_and_sync(disk, gate + 1, batch.framed())?;
     write_and_sync(disk, gate, OPEN)?;
-    tail.gate += need;
+    tail.place += need;
     Ok(())
 }

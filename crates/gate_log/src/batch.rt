@@ -3,7 +3,8 @@ ghost use Rattle.std.specs.Prelude.{◌≡◌, ◌^◌, ◌<◌, length, IfOk};
 ghost use Rattle.gate_log.specs.Framed.{framed};
 ghost use Rattle.gate_log.specs.Places.{need_of};
 
-use crate::gate::SHUT;
+use crate::FRAME_SIZE;
+use crate::gate::CLOSED;
 use byteorder::{BigEndian, ByteOrder};
 use hse_io::NoMemory;
 use std::alloc::Global;
@@ -33,12 +34,12 @@ impl Batch {
         requires { length payload.now < 2 ^ 32 }
         ensures { IfOk result (λ b. b ≡ payload.now) }
     {
-        let mut framed = Vec::with_capacity(alloc, payload.len() + 5)?;
+        let mut framed = Vec::with_capacity(alloc, payload.len() + FRAME_SIZE as usize)?;
         let mut length = [0; 4];
         BigEndian::write_u32(&mut length, payload.len() as u32);
         framed.extend_from_slice(&length)?;
         framed.extend_from_slice(payload)?;
-        framed.extend_from_slice(SHUT)?;
+        framed.extend_from_slice(CLOSED)?;
         Ok(Batch { framed })
     }
 

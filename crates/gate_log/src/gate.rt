@@ -7,4 +7,4 @@ pub(crate) const OPEN_GATE: u8 = 79;
 pub(crate) const OPEN: &[u8] = &[OPEN_GATE];
 
 /// A closed gate, as it is written.
-pub(crate) const SHUT: &[u8] = &[0];
+pub(crate) const CLOSED: &[u8] = &[0];

@@ -3,24 +3,20 @@
 
 mod appending;
 mod batch;
+mod closing;
 mod found;
 mod front;
 mod gate;
-mod laws;
 mod parse;
 mod reading;
 mod region;
 mod starting;
-mod through;
+mod synced_write;
 
 pub use appending::{AppendFault, append};
 pub use batch::Batch;
 pub use found::{Found, Payload, RegionFault};
 pub use front::{End, Front, FrontFault};
-pub use laws::{one_front, one_reading};
 pub use reading::{read_front, read_region};
-pub use region::{Region, Tail};
+pub use region::{FIRST_GATE, FRAME_SIZE, LEAST_SIZE, Region, Tail};
 pub use starting::start;
-
-#[cfg(test)]
-mod tests;

@@ -1,7 +1,7 @@
 //! Reads a region's bytes.
 ghost use Rattle.std.specs.Prelude.{◌≡◌, ℕ, ◌+◌, ◌^◌, ◌<◌, ◌≤◌, List, [], ◌∷◌, ◌++◌, length, IfSome, IfNone, IfOk, OnOk, IfErr, IsErrOf};
 ghost use Rattle.byteorder.specs.Endian.{big_bytes};
-ghost use Rattle.gate_log.specs.Gates.{IsCutOff};
+ghost use Rattle.gate_log.specs.Gates.{IsCutOff, least_size};
 ghost use Rattle.gate_log.specs.Reading.{payloads_of, IsFront, EndsInside, IsReading, IsInside};
 
 use crate::gate::OPEN_GATE;
@@ -41,7 +41,7 @@ fn keep(alloc: Global, batches: &mut Vec<Payload>, payload: &[u8]) -> Result<(),
 
 /// What the bytes of a region hold, up to what ends its batches.
 pub(crate) fn front_in(alloc: Global, region: &[u8]) -> Result<Option<Front>, AllocError>
-    requires { 10 ≤ length region.now }
+    requires { least_size ≤ length region.now }
     ensures found { IfOk result (IsFront region.now) }
     ensures inside { IfOk result (EndsInside (length region.now)) }
 {
@@ -63,8 +63,8 @@ pub(crate) fn front_in(alloc: Global, region: &[u8]) -> Result<Option<Front>, Al
         keep(alloc, &mut batches, payload)?;
         rest = behind;
     }
-    let gate = (region.len() - rest.len()) as u64;
-    let end = End::Closed(Tail { gate });
+    let place = (region.len() - rest.len()) as u64;
+    let end = End::Closed(Tail { place });
     Ok(Some(Front {
         sequence,
         batches,

@@ -9,15 +9,11 @@ use Rattle.media_disk.specs.Images.{IsImage}
 use Rattle.media_disk.specs.Record.{pending_after, pending_of, end_of, reach}
 use Rattle.media_disk.specs.declared.call.Call.{Call}
 use Rattle.media_disk.specs.declared.call.Work.{Work}
-use Rattle.media_disk.specs.declared.call.Work.TheVariants.{Size, SetSize, Read, Write, Sync}
+use Rattle.media_disk.specs.declared.call.Work.TheVariants.{Size, SetSize, Read, Write, FailedWrite, Sync}
 use Rattle.media_disk.proofs.ByteLemmas.{byte-image, bytes-held}
 use Rattle.media_disk.proofs.PlaceLemmas.{RangesFit, OutsideAll, IsOutside, get_or-outside, image-from_places}
-use Rattle.media_disk.proofs.WriteLemmas.{length-part, length-put_at, put-torn, same-torn}
-
--- the bytes as they read are an image
-pub same-image : (ranges : List (ℕ × ℕ)) (bytes : List ℕ) → IsImage bytes ranges bytes
-same-image [] bytes = refl
-same-image (range ∷ ranges) bytes = (bytes, same-torn bytes range.0 range.1, same-image ranges bytes)
+use Rattle.media_disk.proofs.WriteLemmas.{length-part, length-put_at, put-torn}
+use Rattle.media_disk.specs.laws.Images.{image_now, torn_same}
 
 old-step : (work : Work) (failed : Bool) (earlier : List Call) (bytes : List ℕ) → end_of work failed (reach earlier) ≤ length bytes
     → ((b : List ℕ) → reach earlier ≤ length b → IsImage b (pending_of earlier) (old_of earlier b))
@@ -29,7 +25,8 @@ old-step (Write at old) failed earlier bytes within image =
       put-torn bytes at (length old.items) old.items refl fits,
       image (put_at bytes at old.items) (rw (length-put_at bytes at old.items fits) (omega (arith, within))),
     )
-old-step (SetSize size) false earlier bytes within image = (bytes, same-torn bytes 0 size, image bytes (omega (arith, within)))
+old-step (FailedWrite at n) failed earlier bytes within image = (bytes, torn_same at n bytes, image bytes (omega (arith, within)))
+old-step (SetSize size) false earlier bytes within image = (bytes, torn_same 0 size bytes, image bytes (omega (arith, within)))
 old-step (SetSize size) true earlier bytes within image = image bytes within
 old-step Sync false earlier bytes within image = refl
 old-step Sync true earlier bytes within image = image bytes within
@@ -45,6 +42,7 @@ old-image (call ∷ earlier) bytes within =
 ranges_step : (n : ℕ) (work : Work) (failed : Bool) (ranges : List (ℕ × ℕ)) (end : ℕ) → end_of work failed end ≤ n
     → (end ≤ n → RangesFit n ranges) → RangesFit n (pending_after work failed ranges)
 ranges_step n (Write at old) failed ranges end within fit = (omega (arith, within), fit (omega (arith, within)))
+ranges_step n (FailedWrite at m) failed ranges end within fit = (omega (arith, within), fit (omega (arith, within)))
 ranges_step n (SetSize size) false ranges end within fit = (omega (arith, within), fit (omega (arith, within)))
 ranges_step n (SetSize size) true ranges end within fit = fit within
 ranges_step n Sync false ranges end within fit = tt
@@ -68,6 +66,7 @@ torn-step (Write at old) failed earlier bytes within long =
     long (put_at bytes at old.items) (rw back (omega (arith, within))) ∙ back in
     let half : length (part bytes at (length old.items / 2)) ≡ length old.items / 2 = length-part bytes at (length old.items / 2) (omega arith) in
     length-put_at (torn_of earlier (put_at bytes at old.items)) at (part bytes at (length old.items / 2)) (rw (half, torn) (omega arith)) ∙ torn
+torn-step (FailedWrite at n) failed earlier bytes within long = long bytes (omega (arith, within))
 torn-step (SetSize size) false earlier bytes within long = long bytes (omega (arith, within))
 torn-step (SetSize size) true earlier bytes within long = long bytes within
 torn-step Sync false earlier bytes within long = refl
@@ -96,6 +95,7 @@ place-step (Write at old) failed earlier bytes i within outside same =
     get_or-outside (torn_of earlier (put_at bytes at old.items)) at (part bytes at (length old.items / 2)) i (rw (half, torn) (omega arith)) half_outside
     ∙ same (put_at bytes at old.items) (rw back (omega (arith, within))) outside.1
     ∙ get_or-outside bytes at old.items i fits outside.0
+place-step (FailedWrite at n) failed earlier bytes i within outside same = same bytes (omega (arith, within)) outside.1
 place-step (SetSize size) false earlier bytes i within outside same = same bytes (omega (arith, within)) outside.1
 place-step (SetSize size) true earlier bytes i within outside same = same bytes within outside
 place-step Sync false earlier bytes i within outside same = refl
@@ -120,7 +120,7 @@ torn-image calls bytes within =
 pub filled-image : (fill : Fill) (calls : List Call) (bytes : List ℕ) → reach calls ≤ length bytes
     → IsImage bytes (pending_of calls) (filled fill calls bytes)
 filled-image Old calls bytes within = old-image calls bytes within
-filled-image New calls bytes within = same-image (pending_of calls) bytes
+filled-image New calls bytes within = image_now bytes (pending_of calls)
 filled-image Torn calls bytes within = torn-image calls bytes within
 filled-image (Byte b) calls bytes within = byte-image b (pending_of calls) bytes (ranges-fit (length bytes) calls within)
 

@@ -37,10 +37,6 @@ put-torn bytes at n new long fits = record {
   after = drop-put_at_end bytes at n new long (omega arith);
 }
 
--- what is the same is torn nowhere
-pub same-torn : (bytes : List ℕ) (at n : ℕ) → Torn at n bytes bytes
-same-torn bytes at n = record { as_long = refl; before = refl; after = refl }
-
 -- the bytes are made of what lies before a part, the part, and what lies behind
 pub put_at-part : (bytes : List ℕ) (at n : ℕ) → at + n ≤ length bytes → put_at bytes at (part bytes at n) ≡ bytes
 put_at-part bytes at n fits =

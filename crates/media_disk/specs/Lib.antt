@@ -1,10 +1,11 @@
+pub mod Calls
 pub mod Content
-pub mod Counts
+pub mod Entered
 pub mod Filled
 pub mod Halves
 pub mod Images
 pub mod Leaves
 pub mod Lists
 pub mod MemDisk
-pub mod Moments
 pub mod Record
+pub mod laws

@@ -1,6 +1,6 @@
 //! One call of a disk in memory, as its record keeps it.
 
-/// What a call did. A write keeps the bytes that its range held before.
+/// What a call did.
 #[derive(Debug, Drop)]
 pub enum Work {
     /// It asked for the size.
@@ -9,8 +9,10 @@ pub enum Work {
     SetSize(u64),
     /// It read.
     Read,
-    /// It wrote from an offset on, over these bytes.
+    /// It wrote from a place on, over these bytes.
     Write(u64, Vec<u8>),
+    /// It was to write this many bytes from a place on, and failed: it wrote nothing.
+    FailedWrite(u64, u64),
     /// It synced.
     Sync,
 }

@@ -1,7 +1,7 @@
 //! A disk that is lent is a disk.
-use crate::{Disk, Failed};
+use crate::{Device, Disk, Failed};
 
-impl<D: Disk> Disk for &mut D {
+impl<D: Disk> Device for &mut D {
     ghost tells = { D.tells };
 
     ghost seen = { λ d. D.seen d.now };
@@ -12,12 +12,14 @@ impl<D: Disk> Disk for &mut D {
 
     ghost faults = { λ d. D.faults d.now };
 
-    ghost moment = { λ d. D.moment d.now };
+    ghost clock = { λ d. D.clock d.now };
 
-    ghost failed_at = { λ d. D.failed_at d.now };
+    ghost name = { λ d. d.ghost_name };
 
     ghost could = { λ d. D.could d.now };
+}
 
+impl<D: Disk> Disk for &mut D {
     ghost as_long = { λ d. D.as_long d.now };
 
     ghost counts_now = { λ d. D.counts_now d.now };

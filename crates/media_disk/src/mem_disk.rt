@@ -10,9 +10,9 @@ use std::collections::VecDeque;
 /// A device in memory that tells its content.
 ///
 /// It keeps a record of its calls: the pending ranges and all that a crash might have left follow from it. Calls can
-/// be listed to fail; such a failure raises `listed`. The record and the device take memory: a call that finds none
-/// fails, changes nothing and raises `refused`. A write that fails reads as before, and where the record has it, its
-/// range is pending.
+/// be listed to fail; each such failure raises `listed`. The record and the device take memory: a call that finds none
+/// fails, changes nothing and raises `refused`, beside `listed` where it is listed. A write that fails reads as
+/// before, and where the record holds it, its range is pending.
 #[derive(Drop)]
 pub struct MemDisk {
     pub(crate) bytes: Vec<u8>,
@@ -21,34 +21,20 @@ pub struct MemDisk {
 }
 
 impl MemDisk {
-    ghost use Rattle.std.specs.Prelude.{◌≡◌, ◌-◌, ◌^◌, []};
+    ghost use Rattle.std.specs.Prelude.{◌≡◌, []};
     ghost use Rattle.media_disk.specs.Lists.{Lists};
-    ghost use Rattle.media_disk.specs.MemDisk.{mem_bytes, mem_calls, mem_pending, mem_clock, mem_failed_at, mem_lists, mem_listed, mem_refused, ListsOnly};
+    ghost use Rattle.media_disk.specs.MemDisk.{mem_bytes, mem_calls, mem_lists, mem_listed, mem_refused, IsFresh, ListsOnly};
 
     /// A device of size 0. No call was made, and none is listed.
     pub fn new(alloc: Global) -> MemDisk
-        ensures bytes { mem_bytes result ≡ [] }
-        ensures pending { mem_pending result ≡ [] }
-        ensures calls { mem_calls result ≡ [] }
-        ensures clock { mem_clock result ≡ 0 }
-        ensures failed { mem_failed_at result ≡ 0 }
-        ensures lists { mem_lists result ≡ record { calls = []; from = 2 ^ 64 - 1; write = 0 } }
-        ensures listed { mem_listed result ≡ 0 }
-        ensures refused { mem_refused result ≡ 0 }
+        ensures { IsFresh [] result }
     {
         MemDisk::of(alloc, Vec::new(alloc))
     }
 
     /// A device that holds these bytes. Nothing is pending, no call was made, and none is listed.
     pub fn of(alloc: Global, bytes: Vec<u8>) -> MemDisk
-        ensures bytes { mem_bytes result ≡ bytes.items }
-        ensures pending { mem_pending result ≡ [] }
-        ensures calls { mem_calls result ≡ [] }
-        ensures clock { mem_clock result ≡ 0 }
-        ensures failed { mem_failed_at result ≡ 0 }
-        ensures lists { mem_lists result ≡ record { calls = []; from = 2 ^ 64 - 1; write = 0 } }
-        ensures listed { mem_listed result ≡ 0 }
-        ensures refused { mem_refused result ≡ 0 }
+        ensures { IsFresh bytes.items result }
     {
         MemDisk {
             bytes,
@@ -77,7 +63,8 @@ impl MemDisk {
         self.history.listed
     }
 
-    /// How many calls failed because memory was refused.
+    /// How many calls failed that the record does not hold: it found no memory for them, or the clock was at its
+    /// last value.
     pub fn refused(&self) -> u64
         ensures { result ≡ mem_refused self.now }
     {

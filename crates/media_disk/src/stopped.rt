@@ -11,27 +11,19 @@ use std::alloc::Global;
 use std::collections::VecDeque;
 
 impl MemDisk {
-    ghost use Rattle.std.specs.Prelude.{◌≡◌, ◌-◌, ◌^◌, [], IfOk, OnErr};
+    ghost use Rattle.std.specs.Prelude.{◌≡◌, IfOk, OnErr};
     ghost use Rattle.media_disk.specs.Filled.{filled, HoldsByte};
     ghost use Rattle.media_disk.specs.Images.{IsImage};
-    ghost use Rattle.media_disk.specs.MemDisk.{mem_bytes, mem_calls, mem_pending, mem_clock, mem_failed_at, mem_lists, mem_listed, mem_refused};
+    ghost use Rattle.media_disk.specs.MemDisk.{mem_bytes, mem_calls, mem_pending, IsFresh};
 
     /// The disk as a crash now may leave it, with the pending ranges filled in this way. Of the new disk nothing is
     /// pending, no call was made, and none is listed. Memory is refused at `Fill::Torn` alone.
     pub fn stopped(self, alloc: Global, fill: Fill) -> Result<MemDisk, NoMemory>
+        ensures fresh { IfOk result
+            (λ disk. IsFresh (filled fill (mem_calls self) (mem_bytes self)) disk) }
         ensures image { IfOk result
             (λ disk. IsImage (mem_bytes self) (mem_pending self) (mem_bytes disk)) }
-        ensures bytes { IfOk result
-            (λ disk. mem_bytes disk ≡ filled fill (mem_calls self) (mem_bytes self)) }
         ensures held { IfOk result (λ disk. HoldsByte fill (mem_pending self) (mem_bytes disk)) }
-        ensures pending { IfOk result (λ disk. mem_pending disk ≡ []) }
-        ensures calls { IfOk result (λ disk. mem_calls disk ≡ []) }
-        ensures clock { IfOk result (λ disk. mem_clock disk ≡ 0) }
-        ensures failed { IfOk result (λ disk. mem_failed_at disk ≡ 0) }
-        ensures lists { IfOk result
-            (λ disk. mem_lists disk ≡ record { calls = []; from = 2 ^ 64 - 1; write = 0 }) }
-        ensures listed { IfOk result (λ disk. mem_listed disk ≡ 0) }
-        ensures refused { IfOk result (λ disk. mem_refused disk ≡ 0) }
         ensures err { OnErr result (fill ≡ Fill.Torn) }
     {
         let MemDisk { mut bytes, history } = self;

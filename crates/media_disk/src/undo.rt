@@ -29,6 +29,7 @@ pub fn blank_pending(bytes: &mut Vec<u8>, calls: &mut VecDeque<Call>, byte: u8)
     while let Some(call) = calls.pop_front() {
         match call.work {
             Work::Write(at, old) => blank(bytes, at as usize, old.len(), byte),
+            Work::FailedWrite(at, len) => blank(bytes, at as usize, len as usize, byte),
             Work::SetSize(size) if !call.failed => blank(bytes, 0, size as usize, byte),
             Work::Sync if !call.failed => return,
             _ => {}

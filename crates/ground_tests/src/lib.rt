@@ -1,0 +1,7 @@
+//! Tests of the lowest crates over their public calls.
+#![tactic(auto)]
+
+#[cfg(test)]
+mod disks;
+#[cfg(test)]
+mod regions;
