@@ -1,10 +1,10 @@
 //! The calls of a disk, over those of the system.
-ghost use Rattle.std.specs.Prelude.{◌≡◌, ◌+◌, ◌-◌, ◌^◌, ◌≤◌, length, IfOk, OnOk, OnErr, IsErr};
-ghost use Rattle.hse_io.specs.Faults.{HasCause, next_count};
+ghost use Rattle.std.specs.Prelude.{◌≡◌, ◌+◌, ◌^◌, ◌≤◌, [], length, IfOk, OnOk, OnErr, IsErr};
+ghost use Rattle.media_disk.specs.Calls.{Called};
 ghost use Rattle.file_disk.specs.FileState.{KeepsFile};
 
 use crate::FileDisk;
-use media_disk::{Disk, Failed};
+use media_disk::{Device, Disk, Failed};
 use std::fs::File;
 use std::io;
 use std::os::unix::fs::FileExt;
@@ -20,9 +20,7 @@ fn grow(file: &File, size: u64) -> io::Result<()>
     file.set_len(size)
 }
 
-impl<R: Files<File = File> + Drop> Disk for FileDisk<R> {
-    ghost use Rattle.std.specs.Prelude.{[]};
-
+impl<R: Files<File = File> + Drop> Device for FileDisk<R> {
     ghost tells = { ⊥ };
 
     ghost seen = { λ _. [] };
@@ -33,12 +31,14 @@ impl<R: Files<File = File> + Drop> Disk for FileDisk<R> {
 
     ghost faults = { λ disk. disk.faults };
 
-    ghost moment = { λ disk. disk.clock };
+    ghost clock = { λ disk. disk.clock };
 
-    ghost failed_at = { λ disk. disk.failed_at };
+    ghost name = { λ _. 0 };
 
     ghost could = { λ _ _ _. ⊥ };
+}
 
+impl<R: Files<File = File> + Drop> Disk for FileDisk<R> {
     ghost as_long = { λ _ told. absurd told };
 
     ghost counts_now = { λ _ _ _ told _ _. absurd told };
@@ -46,15 +46,9 @@ impl<R: Files<File = File> + Drop> Disk for FileDisk<R> {
     ghost only_now = { λ _ _ told _. absurd told };
 
     fn size(&mut self) -> Result<u64, Failed>
+        ensures call { Called ⟦<FileDisk<R> as Device>⟧ self.old self.new result }
         ensures size { IfOk result (λ n. n ≡ self.new.extent) }
         ensures extent { OnErr result (self.new.extent ≡ self.old.extent) }
-        ensures clock { self.new.clock ≡ next_count self.old.clock }
-        ensures forward { self.old.clock ≤ self.new.clock }
-        ensures spent { self.old.clock ≡ 2 ^ 64 - 1 → IsErr result }
-        ensures failed { OnErr result (self.new.failed_at ≡ self.new.clock) }
-        ensures unfailed { OnOk result (self.new.failed_at ≡ self.old.failed_at) }
-        ensures cause { HasCause self.old.faults self.new.faults result }
-        ensures counts { OnErr result (self.new.faults ≡ next_count self.old.faults) }
         ensures file { KeepsFile self.old self.new result }
     {
         self.begin()?;
@@ -67,16 +61,10 @@ impl<R: Files<File = File> + Drop> Disk for FileDisk<R> {
     fn set_size(&mut self, size: u64) -> Result<(), Failed>
         requires empty { self.old.extent ≡ 0 }
         requires some { 1 ≤ size }
+        ensures call { Called ⟦<FileDisk<R> as Device>⟧ self.old self.new result }
         ensures extent { OnOk result (self.new.extent ≡ size) }
         ensures extent_err { OnErr result (self.new.extent ≡ self.old.extent) }
         ensures too_large { 2 ^ 63 ≤ size → IsErr result }
-        ensures clock { self.new.clock ≡ next_count self.old.clock }
-        ensures forward { self.old.clock ≤ self.new.clock }
-        ensures spent { self.old.clock ≡ 2 ^ 64 - 1 → IsErr result }
-        ensures failed { OnErr result (self.new.failed_at ≡ self.new.clock) }
-        ensures unfailed { OnOk result (self.new.failed_at ≡ self.old.failed_at) }
-        ensures cause { HasCause self.old.faults self.new.faults result }
-        ensures counts { OnErr result (self.new.faults ≡ next_count self.old.faults) }
         ensures file { KeepsFile self.old self.new result }
     {
         self.begin()?;
@@ -88,14 +76,8 @@ impl<R: Files<File = File> + Drop> Disk for FileDisk<R> {
 
     fn read(&mut self, at: u64, into: &mut [u8]) -> Result<(), Failed>
         requires { at + length into.old ≤ self.old.extent }
+        ensures call { Called ⟦<FileDisk<R> as Device>⟧ self.old self.new result }
         ensures extent { self.new.extent ≡ self.old.extent }
-        ensures clock { self.new.clock ≡ next_count self.old.clock }
-        ensures forward { self.old.clock ≤ self.new.clock }
-        ensures spent { self.old.clock ≡ 2 ^ 64 - 1 → IsErr result }
-        ensures failed { OnErr result (self.new.failed_at ≡ self.new.clock) }
-        ensures unfailed { OnOk result (self.new.failed_at ≡ self.old.failed_at) }
-        ensures cause { HasCause self.old.faults self.new.faults result }
-        ensures counts { OnErr result (self.new.faults ≡ next_count self.old.faults) }
         ensures file { KeepsFile self.old self.new result }
     {
         self.begin()?;
@@ -105,14 +87,8 @@ impl<R: Files<File = File> + Drop> Disk for FileDisk<R> {
 
     fn write(&mut self, at: u64, bytes: &[u8]) -> Result<(), Failed>
         requires { at + length bytes.now ≤ self.old.extent }
+        ensures call { Called ⟦<FileDisk<R> as Device>⟧ self.old self.new result }
         ensures extent { self.new.extent ≡ self.old.extent }
-        ensures clock { self.new.clock ≡ next_count self.old.clock }
-        ensures forward { self.old.clock ≤ self.new.clock }
-        ensures spent { self.old.clock ≡ 2 ^ 64 - 1 → IsErr result }
-        ensures failed { OnErr result (self.new.failed_at ≡ self.new.clock) }
-        ensures unfailed { OnOk result (self.new.failed_at ≡ self.old.failed_at) }
-        ensures cause { HasCause self.old.faults self.new.faults result }
-        ensures counts { OnErr result (self.new.faults ≡ next_count self.old.faults) }
         ensures file { KeepsFile self.old self.new result }
     {
         self.begin()?;
@@ -122,14 +98,8 @@ impl<R: Files<File = File> + Drop> Disk for FileDisk<R> {
 
     // The data, the length with them, and at the first time the folder.
     fn sync(&mut self) -> Result<(), Failed>
+        ensures call { Called ⟦<FileDisk<R> as Device>⟧ self.old self.new result }
         ensures extent { self.new.extent ≡ self.old.extent }
-        ensures clock { self.new.clock ≡ next_count self.old.clock }
-        ensures forward { self.old.clock ≤ self.new.clock }
-        ensures spent { self.old.clock ≡ 2 ^ 64 - 1 → IsErr result }
-        ensures failed { OnErr result (self.new.failed_at ≡ self.new.clock) }
-        ensures unfailed { OnOk result (self.new.failed_at ≡ self.old.failed_at) }
-        ensures cause { HasCause self.old.faults self.new.faults result }
-        ensures counts { OnErr result (self.new.faults ≡ next_count self.old.faults) }
         ensures file { KeepsFile self.old self.new result }
     {
         self.begin()?;

@@ -3,7 +3,7 @@ ghost use Rattle.std.specs.Prelude.{◌≡◌};
 
 use crate::opening::{open_locked, sync_folder};
 use hse_io::NoMemory;
-use media_disk::Failed;
+use media_disk::{Device, Failed};
 use std::alloc::Global;
 use std::fs::File;
 use std::io;
@@ -21,7 +21,6 @@ pub struct FileDisk<R: Files<File = File>> {
     pub(crate) extent: u64,
     pub(crate) faults: u64,
     pub(crate) clock: u64,
-    pub(crate) failed_at: u64,
 }
 
 impl<R: Files<File = File>> Model for FileDisk<R> {
@@ -37,7 +36,6 @@ impl<R: Files<File = File>> Model for FileDisk<R> {
       extent = s.extent;
       faults = s.faults;
       clock = s.clock;
-      failed_at = s.failed_at;
     } };
 
     ghost invariant = { λ s. IfSome (option_map file_raw_fd s.file) (λ descriptor. pos 2 <ℤ descriptor) };
@@ -47,7 +45,8 @@ impl<R: Files<File = File> + Drop> FileDisk<R> {
     ghost use Rattle.std.specs.Prelude.{◌-◌, ◌^◌, ◌≤◌, Some, Ok, IfOk, IsOk, IsErr, IsSome, OnOk, OnErr, MatchResult};
     ghost use Rattle.std.specs.Fd.{file_raw_fd};
     ghost use Rattle.hse_io.specs.Faults.{HasCause, next_count};
-    ghost use Rattle.file_disk.specs.FileState.{IsOpen, KeepsFile, failed_after, faults_after, untouched};
+    ghost use Rattle.media_disk.specs.Calls.{Called};
+    ghost use Rattle.file_disk.specs.FileState.{IsOpen, KeepsFile, faults_after, untouched};
 
     /// The file of this path, which is not touched yet.
     pub fn at(rt: R, alloc: Global, path: &str) -> Result<FileDisk<R>, NoMemory>
@@ -61,7 +60,6 @@ impl<R: Files<File = File> + Drop> FileDisk<R> {
             extent: 0,
             faults: 0,
             clock: 0,
-            failed_at: 0,
         })
     }
 
@@ -103,28 +101,23 @@ impl<R: Files<File = File> + Drop> FileDisk<R> {
         Ok(())
     }
 
-    // Counts a fault of the call before the clock.
-    fn fault(&mut self) -> Failed
-        ensures state { self.new ≡ record self.old { faults = next_count self.old.faults; failed_at = self.old.clock } }
+    fn count_fault(&mut self) -> Failed
+        ensures state { self.new ≡ record self.old { faults = next_count self.old.faults } }
         ensures later { self.old.faults ≤ self.new.faults }
     {
         self.faults = self.faults.saturating_add(1);
-        self.failed_at = self.clock;
         Failed
     }
 
     /// Passes on what the system answered, and counts a fault.
     pub(crate) fn count_fault_of<T: Drop>(&mut self, outcome: io::Result<T>) -> Result<T, Failed>
-        ensures answer { MatchResult outcome (λ told. result ≡ Ok told) (λ error. IsErr result) }
-        ensures state { self.new ≡ record self.old {
-          faults = faults_after self.old.faults outcome;
-          failed_at = failed_after self.old.clock self.old.failed_at outcome;
-        } }
+        ensures passed { MatchResult outcome (λ given. result ≡ Ok given) (λ error. IsErr result) }
+        ensures state { self.new ≡ record self.old { faults = faults_after self.old.faults outcome } }
         ensures cause { HasCause self.old.faults self.new.faults result }
     {
         match outcome {
-            Ok(told) => Ok(told),
-            Err(_) => Err(self.fault()),
+            Ok(given) => Ok(given),
+            Err(_) => Err(self.count_fault()),
         }
     }
 
@@ -132,17 +125,11 @@ impl<R: Files<File = File> + Drop> FileDisk<R> {
     /// opens nothing.
     pub(crate) fn begin(&mut self) -> Result<(), Failed>
         ensures extent { self.new.extent ≡ self.old.extent }
-        ensures clock { self.new.clock ≡ next_count self.old.clock }
-        ensures forward { self.old.clock ≤ self.new.clock }
-        ensures spent { self.old.clock ≡ 2 ^ 64 - 1 → IsErr result }
-        ensures failed { OnErr result (self.new.failed_at ≡ self.new.clock) }
-        ensures unfailed { OnOk result (self.new.failed_at ≡ self.old.failed_at) }
-        ensures cause { HasCause self.old.faults self.new.faults result }
-        ensures counts { OnErr result (self.new.faults ≡ next_count self.old.faults) }
+        ensures call { Called ⟦<FileDisk<R> as Device>⟧ self.old self.new result }
         ensures file { KeepsFile self.old self.new result }
     {
         if self.clock == u64::MAX {
-            return Err(self.fault());
+            return Err(self.count_fault());
         }
         self.clock += 1;
         let opened = self.open();

@@ -7,3 +7,5 @@ mod disks;
 mod files;
 #[cfg(test)]
 mod lines;
+#[cfg(test)]
+mod regions;

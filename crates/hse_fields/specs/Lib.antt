@@ -1,10 +1,7 @@
 pub mod Fields
+pub mod LogLimits
 pub mod LogText
 pub mod LogOrder
 pub mod LogForm
 pub mod LogReading
-pub mod FieldLaws
-pub mod ChangeLaws
-pub mod PayloadLaws
-pub mod FollowLaws
-pub mod WithinLaws
+pub mod laws

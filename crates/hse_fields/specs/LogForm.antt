@@ -1,18 +1,15 @@
 -- Which changes, entries and payloads a log may have.
 use Rattle.std.specs.Prelude.{◌≡◌, ℕ, ◌^◌, ◌<◌, ◌≤◌, List, [], ◌∷◌, length, Option, Some, None, IsTrue}
 use Rattle.std.specs.List.{AllByRecursion}
+use Rattle.hse_fields.specs.LogLimits.{longest_key, longest_prefix}
 use Rattle.hse_fields.specs.LogText.{Kind, put, del, pdel, Change, Entry}
 use Rattle.hse_fields.specs.LogOrder.{may_follow}
 
 -- the most bytes that a key has, and a prefix
 abbrev pub longest_name : Kind → ℕ
-longest_name put = 1344
-longest_name del = 1344
-longest_name pdel = 32
-
--- the most bytes that a value has whose length can be written
-abbrev pub longest_value : ℕ
-longest_value = 4294967295
+longest_name put = longest_key
+longest_name del = longest_key
+longest_name pdel = longest_prefix
 
 -- a value has at most so many bytes, and puts alone have one
 abbrev pub ValueFits : ℕ → Kind → List ℕ → Type 0

@@ -1,11 +1,12 @@
 -- Reading the log's text from left to right. A field is a value and the bytes behind it. A refusal is the
 -- number of bytes that stand from the first refused field on, to the end of the payload.
-use Rattle.std.specs.Prelude.{◌≡◌, ℕ, zero, suc, ◌+◌, List, [], ◌∷◌, length, take, drop, Bool, true, Option, Some, None, is_some, Result, Ok, Err, nat_lt, nat_le, ◌==◌, ◌&&◌, ◌||◌, if◌then◌else◌}
+use Rattle.std.specs.Prelude.{◌≡◌, ℕ, zero, suc, ◌+◌, List, [], ◌∷◌, length, take, Bool, true, Option, Some, None, is_some, Result, Ok, Err, nat_lt, nat_le, ◌==◌, ◌&&◌, ◌||◌, if◌then◌else◌}
 use Rattle.std.specs.List.{AllByRecursion}
-use Rattle.byteorder.specs.Endian.{big_number}
+use Rattle.hse_fields.specs.Fields.{number_of, bytes_of}
 use Rattle.hse_fields.specs.LogText.{Kind, put, del, pdel, Change, Entry}
 use Rattle.hse_fields.specs.LogOrder.{may_follow, kind_may_follow, store_may_follow}
-use Rattle.hse_fields.specs.LogForm.{longest_name, longest_value}
+use Rattle.hse_fields.specs.LogForm.{longest_name}
+use Rattle.hse_fields.specs.LogLimits.{longest_value}
 
 infixl 10 ◌>>=◌
 abbrev pub ◌>>=◌ : {A B : Type 0} → Result A ℕ → (A → Result B ℕ) → Result B ℕ
@@ -20,15 +21,6 @@ ensure test left = if test then Ok tt else Err left
 abbrev pub given : {A : Type 0} → Option A → ℕ → Result A ℕ
 given (Some x) left = Ok x
 given None left = Err left
-
--- A field that passes the end is cut off, and refused at its first byte.
-abbrev pub number_of : ℕ → List ℕ → Result (ℕ × List ℕ) ℕ
-number_of n bytes =
-    if nat_lt (length bytes) n then Err (length bytes) else Ok (big_number n (take n bytes), drop n bytes)
-
-abbrev pub bytes_of : ℕ → List ℕ → Result (List ℕ × List ℕ) ℕ
-bytes_of n bytes =
-    if nat_lt (length bytes) n then Err (length bytes) else Ok (take n bytes, drop n bytes)
 
 -- How many bytes follow. A number outside its limits is refused at itself.
 unfoldable pub size_of : ℕ → ℕ → ℕ → List ℕ → Result (ℕ × List ℕ) ℕ

@@ -2,17 +2,17 @@
 //! contracts are the laws.
 ghost use Rattle.std.specs.Prelude.{◌≡◌, ◌^◌, ◌+◌, ◌<◌, ◌≤◌, ◌++◌, ℕ, List, length, Ok, Err, slice_index};
 ghost use Rattle.byteorder.specs.Endian.{big_bytes};
-ghost use Rattle.hse_fields.specs.Fields.{bytes_at, number_at};
+ghost use Rattle.hse_fields.specs.Fields.{bytes_of, number_of};
 ghost use Rattle.hse_fields.specs.LogText.{Entry, payload_text};
 ghost use Rattle.hse_fields.specs.LogForm.{ArePayload};
 ghost use Rattle.hse_fields.specs.LogReading.{any, payload_of, Follow, PrefixesFit, Rule};
 
-/// What was put is taken again, whatever stands before and behind it.
+/// What was put is taken again, whatever stands behind it.
 pub fn put_is_taken()
-    ensures numbers { (n number : ℕ) (front rest : List ℕ) → number < 256 ^ n
-        → number_at n (front ++ (big_bytes n number ++ rest)) (length front) ≡ Ok number }
-    ensures bytes { (bytes front rest : List ℕ)
-        → bytes_at (length bytes) (front ++ (bytes ++ rest)) (length front) ≡ Ok bytes }
+    ensures numbers { (n number : ℕ) (rest : List ℕ) → number < 256 ^ n
+        → number_of n (big_bytes n number ++ rest) ≡ Ok (number, rest) }
+    ensures bytes { (bytes rest : List ℕ)
+        → bytes_of (length bytes) (bytes ++ rest) ≡ Ok (bytes, rest) }
 {}
 
 /// The log's text has one reading: a payload's bytes that are read are the text of what was read, and

@@ -3,14 +3,16 @@
 #![tactic(auto)]
 
 mod laws;
+mod limits;
 mod put;
 mod short;
 mod take;
 
 pub use laws::{log_text_is_read, log_text_is_read_by_rule, put_is_taken};
-pub use put::{put_bytes, put_u8, put_u16, put_u32, put_u64};
+pub use limits::{
+    DELETION, DELETION_BESIDE, ENTRY_HEAD, FRAME, LONGEST_KEY, LONGEST_PREFIX, LONGEST_VALUE,
+    PREFIX_DELETE, PUT, PUT_BESIDE,
+};
+pub use put::{put_bytes, put_pieces, put_u8, put_u16, put_u32, put_u64};
 pub use short::Short;
 pub use take::{take_bytes, take_u8, take_u16, take_u32, take_u64};
-
-#[cfg(test)]
-mod tests;

@@ -9,7 +9,7 @@ use Rattle.gate_log.specs.declared.found.Payload.{Payload}
 use Rattle.hse_fields.specs.LogText.{Entry}
 use Rattle.hse_fields.specs.LogReading.{◌>>=◌, payload_of}
 use Rattle.wal.specs.declared.segment.SegmentFault.{SegmentFault}
-use Rattle.wal.specs.declared.segment.SegmentFault.TheVariants.{Damaged, Device, NoMemory}
+use Rattle.wal.specs.declared.segment.SegmentFault.TheVariants.{Damaged, NoMemory}
 use Rattle.wal.specs.Given.{Refuses}
 use Rattle.wal.specs.Numbering.{Numbers, numbering}
 use Rattle.wal.specs.Replaying.{before, batches_of}
@@ -48,7 +48,6 @@ pub stops : (fault : SegmentFault) (live : List StorePrefix) (most : ℕ) (front
     → with_front front (batches_of live most state gate (payloads_of (drop i batches))) ≡ total → Refuses fault total
 unfolding batches_of
 stops NoMemory live most front state gate batches i batch total lt is h so_far = tt
-stops Device live most front state gate batches i batch total lt is h so_far = h
 stops (Damaged place) live most front state gate batches i batch total lt is h so_far =
     let one : with_front front (batches_of live most state gate (payloads_of (drop i batches))) ≡ Err place =
     ap (λ (bs : List Payload). with_front front (batches_of live most state gate (payloads_of bs))) (rest_is batches i batch lt is)

@@ -8,16 +8,16 @@ use Rattle.byteorder.specs.Endian.{big_bytes}
 use Rattle.byteorder.specs.Numbers.{length-bytes_high_first}
 use Rattle.hse_fields.specs.LogText.{Entry, entry_text, payload_text}
 use Rattle.hse_fields.specs.LogReading.{◌>>=◌, entry_of, entries_of, payload_of}
-use Rattle.hse_fields.specs.FieldLaws.{IsBytes}
-use Rattle.hse_fields.specs.PayloadLaws.{payload_takes}
-use Rattle.hse_fields.specs.WithinLaws.{payload_within}
+use Rattle.hse_fields.specs.laws.Fields.{IsBytes}
+use Rattle.hse_fields.specs.laws.Payloads.{payload_takes}
+use Rattle.hse_fields.specs.laws.Within.{payload_within}
 use Rattle.wal.specs.declared.refusal.Refusal.{Refusal}
 use Rattle.wal.specs.declared.refusal.Refusal.TheVariants.{Left, NoMemory}
 use Rattle.wal.specs.Charges.{charges}
-use Rattle.wal.specs.Given.{Fails, Gives, LiesBehind}
+use Rattle.wal.specs.Given.{Fails}
 use Rattle.wal.specs.Logged.{charge}
 use Rattle.wal.specs.Numbering.{Numbers, numbering}
-use Rattle.wal.specs.NumberingLaws.{all_charges}
+use Rattle.wal.specs.laws.Numbering.{all_charges}
 use Rattle.wal.specs.declared.live.StorePrefix.{StorePrefix}
 
 -- what was read before, and what is still read
@@ -61,10 +61,6 @@ is_done live most front state count i bytes total le so_far =
 
 -- ---- the room
 
-pub payload_charges : (live : List StorePrefix) (most : ℕ) (state last : Numbers) (bytes : List ℕ) (es : List Entry) → IsBytes bytes
-    → payload_of (numbering live) most state bytes ≡ Ok (es, last) → charges es + last.room ≡ state.room
-payload_charges live most state last bytes es small e = all_charges live state last es (payload_takes (numbering live) most state bytes (es, last) small e).2
-
 -- an entry is charged 32 bytes more than its text has
 text_charges : (es : List Entry) → length (flat_map entry_text es) + 32 * length es ≡ charges es
 text_charges [] = refl
@@ -82,21 +78,3 @@ payload_sized live most state last bytes es small e =
     let count = length-bytes_high_first 4 (length es) in
     let text = length-append (big_bytes 4 (length es)) (flat_map entry_text es) in
     omega (arith, spelled, some, count, text, text_charges es)
-
--- ---- what a reader of a payload gave
-
-pub lies_behind : {X : Type 0} (view : X → List Entry × Numbers) (r : Result X Refusal) (live : List StorePrefix) (most : ℕ) (state : Numbers) (bytes : List ℕ)
-    → Gives view r (payload_of (numbering live) most state bytes) → IfErr r (LiesBehind (length bytes))
-lies_behind view (Ok x) live most state bytes e = tt
-lies_behind view (Err (Left left)) live most state bytes e = payload_within (numbering live) most state bytes left e
-lies_behind view (Err NoMemory) live most state bytes e = tt
-
-pub charged : {X : Type 0} (view : X → List Entry × Numbers) (r : Result X Refusal) (live : List StorePrefix) (most : ℕ) (state : Numbers) (bytes : List ℕ) → IsBytes bytes
-    → Gives view r (payload_of (numbering live) most state bytes) → IfOk r (λ x. charges (view x).0 + (view x).1.room ≡ state.room)
-charged view (Ok x) live most state bytes small e = payload_charges live most state (view x).1 bytes (view x).0 small e
-charged view (Err refusal) live most state bytes small e = tt
-
-pub sized : {X : Type 0} (view : X → List Entry × Numbers) (r : Result X Refusal) (live : List StorePrefix) (most : ℕ) (state : Numbers) (bytes : List ℕ) → IsBytes bytes
-    → Gives view r (payload_of (numbering live) most state bytes) → IfOk r (λ x. 5 + length bytes ≤ charges (view x).0)
-sized view (Ok x) live most state bytes small e = payload_sized live most state (view x).1 bytes (view x).0 small e
-sized view (Err refusal) live most state bytes small e = tt

@@ -3,10 +3,12 @@ use Rattle.std.proofs.Common.{◌≡◌, ℕ, ◌-◌, ◌+◌, ◌<◌, ◌≤�
 use Rattle.std.specs.Prelude.{is_some, nat_lt, nat_le}
 use Rattle.std.proofs.lemmas.Bool.{cases_lt, and_from, le-leb, lt-leb, eq-eqb, lt-ltb, le-ltb}
 use Rattle.hse_fields.specs.LogText.{Change, Entry}
-use Rattle.hse_fields.specs.LogForm.{longest_value}
-use Rattle.hse_fields.specs.LogReading.{◌>>=◌, ensure, number_of, changes_of, has_room, entry_of}
-use Rattle.hse_fields.specs.FieldLaws.{IsBytes}
-use Rattle.hse_fields.specs.PayloadLaws.{entry, from_changes, any_changes_too, room_is}
+use Rattle.hse_fields.specs.LogLimits.{longest_value}
+use Rattle.hse_fields.specs.Fields.{number_of}
+use Rattle.hse_fields.specs.LogReading.{◌>>=◌, ensure, changes_of, has_room, entry_of}
+use Rattle.hse_fields.specs.laws.Fields.{IsBytes}
+use Rattle.hse_fields.specs.laws.AllChanges.{any_changes_too}
+use Rattle.hse_fields.specs.laws.Payloads.{entry, from_changes, room_is}
 use Rattle.wal.specs.Live.{prefix_fits}
 use Rattle.wal.specs.Logged.{charge}
 use Rattle.wal.specs.Numbering.{Numbers, free_from, taken_from, last_number, is_next, after, numbering}

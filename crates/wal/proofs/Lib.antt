@@ -4,8 +4,7 @@ pub mod EntryLemmas
 pub mod EntriesLoop
 pub mod BatchesLoop
 pub mod LengthLemmas
+pub mod SegmentLemmas
 pub mod SoundLemmas
 pub mod TextLemmas
 pub mod PayloadLemmas
-pub mod TakenLemmas
-pub mod SegmentLemmas

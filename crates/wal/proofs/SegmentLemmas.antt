@@ -1,167 +1,98 @@
--- What is read of a segment is read so too where more numbers are taken behind the others.
-use Rattle.std.proofs.Common.{◌≡◌, ℕ, zero, suc, ◌+◌, ◌≤◌, ◌==◌, true, false, Bool, List, [], ◌∷◌, length, Some, None, Result, Ok, Err, refl, sym, ap, subst, ◌∙◌, cond, arith}
-use Rattle.std.specs.Prelude.{is_some, nat_lt}
-use Rattle.gate_log.specs.declared.front.End.TheVariants.{Closed}
+-- What the reading of a segment's batches says of their places and charges.
+use Rattle.std.proofs.Common.{◌≡◌, ◌∙◌, ℕ, ◌+◌, ◌-◌, ◌<◌, ◌≤◌, List, [], ◌∷◌, ◌++◌, length, Result, Ok, Err, get_or, refl, sym, ap, subst, arith, inl, inr}
+use Rattle.std.specs.List.{sum_by, AllByRecursion}
+use Rattle.std.proofs.lemmas.Bool.{cases_lt}
+use Rattle.std.proofs.lemmas.List.{get_or_past}
+use Rattle.std.proofs.lemmas.List.Sums.{sum_by-cons, sum_by-append}
+use Rattle.gate_log.specs.Places.{need_of, tail_of}
+use Rattle.gate_log.specs.Reading.{payloads_of, LiesInside}
+use Rattle.gate_log.specs.declared.found.Payload.{Payload}
 use Rattle.gate_log.specs.declared.region.Tail.{Tail}
-use Rattle.hse_fields.specs.LogText.{Change, Entry}
-use Rattle.hse_fields.specs.LogReading.{◌>>=◌, ensure, given, number_of, changes_of, any_changes_of, Rule, comes_with, has_room, entry_of, entries_of, payload_of}
-use Rattle.hse_fields.specs.FieldLaws.{bind_ok, ensure_ok, given_ok, ok_is}
-use Rattle.hse_fields.specs.PayloadLaws.{entry, from_changes, from_room, from_next, from_number, other_entries_of, ended_of}
-use Rattle.wal.specs.BatchLaws.{Reads, first_of, none_read, reads_none, reads_first, batches_follow, closed_read}
-use Rattle.wal.specs.Live.{prefix_fits}
-use Rattle.wal.specs.Logged.{charge}
-use Rattle.wal.specs.Numbering.{Numbers, is_next, after, numbering}
-use Rattle.wal.specs.NumberingLaws.{known_after}
-use Rattle.wal.specs.Replaying.{batches_of, segment_of}
-use Rattle.wal.specs.Taken.{with_taken}
+use Rattle.gate_log.specs.declared.front.End.{End}
+use Rattle.gate_log.specs.declared.front.End.TheVariants.{Closed, CutOff}
+use Rattle.hse_fields.specs.LogText.{Entry}
+use Rattle.hse_fields.specs.LogReading.{◌>>=◌, payload_of}
+use Rattle.hse_fields.specs.laws.Fields.{IsBytes}
+use Rattle.wal.specs.Given.{Refuses}
+use Rattle.wal.specs.Numbering.{Numbers, numbering}
+use Rattle.wal.specs.Replaying.{before, batches_of, ended, segment_of, starting}
 use Rattle.wal.specs.declared.live.StorePrefix.{StorePrefix}
-use Rattle.wal.proofs.TakenLemmas.{AreFrom, lower, follow_grows, follow_more}
+use Rattle.wal.specs.declared.segment.SegmentFault.{SegmentFault}
+use Rattle.wal.specs.declared.segment.SegmentFault.TheVariants.{Damaged, NoMemory}
 
--- ---- the room does not depend on the taken numbers
+-- ---- the refused place
 
-both_some : {A : Type 0} (b : Bool) (x y : A) → is_some (cond b None (Some x)) ≡ is_some (cond b None (Some y))
-both_some true x y = refl
-both_some false x y = refl
+-- a refusal at this place at most
+abbrev pub Within : {A : Type 0} → ℕ → Result A ℕ → Type 0
+Within n (Ok x) = Unit {0}
+Within n (Err place) = place ≤ n
 
-same_told : (live : List StorePrefix) (state : Numbers) (more : List ℕ) (number : ℕ) (r : Result (List Change × List ℕ) ℕ)
-    → comes_with (numbering live) (with_taken state more) number r ≡ comes_with (numbering live) state number r
-same_told live state more number (Ok x) =
-    let e = entry number x.0 in
-    both_some (nat_lt state.room (charge e)) (known_after (with_taken state more) e) (known_after state e)
-same_told live state more number (Err left) = refl
+then : {A B : Type 0} (n : ℕ) (r : Result A ℕ) (f : A → Result B ℕ) → Within n r → ((x : A) → Within n (f x)) → Within n (r >>= f)
+then n (Ok x) f w more = more x
+then n (Err place) f w more = w
 
-same_room : (live : List StorePrefix) (state : Numbers) (more : List ℕ) (number : ℕ) (bytes : List ℕ)
-    → has_room (numbering live) (with_taken state more) number bytes ≡ has_room (numbering live) state number bytes
-unfolding has_room
-same_room live state more number bytes = same_told live state more number (any_changes_of bytes)
+wider : {A : Type 0} (m n : ℕ) (r : Result A ℕ) → m ≤ n → Within m r → Within n r
+wider m n (Ok x) le w = tt
+wider m n (Err place) le w = omega (arith, le, w)
 
--- ---- one entry
+before_within : {A : Type 0} (end : ℕ) (r : Result A ℕ) → Within end (before end r)
+before_within end (Ok x) = tt
+before_within end (Err left) = omega arith
 
-entry_reads : {S : Type 0} (rule : Rule S) (most : ℕ) (state next : S) (bytes : List ℕ) (number : ℕ) (behind : List ℕ) (changes : List Change)
-    (rest : List ℕ) → number_of 8 bytes ≡ Ok (number, behind) → rule.number_fits state number ≡ true → has_room rule state number behind ≡ true
-    → changes_of rule.prefix_fits most behind ≡ Ok (changes, rest) → rule.after state (entry number changes) ≡ Some next
-    → entry_of rule most state bytes ≡ Ok ((entry number changes, next), rest)
-unfolding entry_of
-entry_reads rule most state next bytes number behind changes rest first fits room read comes = rw (first, fits, room, read, comes) refl
+batches_within : (live : List StorePrefix) (most : ℕ) (state : Numbers) (gate : ℕ) (payloads : List (List ℕ))
+    → Within (gate + sum_by need_of payloads) (batches_of live most state gate payloads)
+unfolding batches_of
+batches_within live most state gate [] = tt
+batches_within live most state gate (payload ∷ payloads) =
+    let sum : sum_by need_of (payload ∷ payloads) ≡ need_of payload + sum_by need_of payloads = sum_by-cons need_of payload payloads in
+    let end = gate + need_of payload in
+    let all = gate + sum_by need_of (payload ∷ payloads) in
+    then all (before end (payload_of (numbering live) most state payload))
+    (λ first. batches_of live most first.1 end payloads >>= λ others. Ok (first.0 ++ others.0, others.1))
+    (wider end all (before end (payload_of (numbering live) most state payload)) (omega (arith, sum)) (before_within end (payload_of (numbering live) most state payload)))
+    (λ first. then all (batches_of live most first.1 end payloads) (λ others. Ok (first.0 ++ others.0, others.1))
+    (wider (end + sum_by need_of payloads) all (batches_of live most first.1 end payloads) (omega (arith, sum)) (batches_within live most first.1 end payloads))
+    (λ others. tt))
 
-record EntryAgain (live : List StorePrefix) (most : ℕ) (state : Numbers) (bytes : List ℕ) (x : (Entry × Numbers) × List ℕ) : Type 0 where
-  grows : state.next ≤ x.0.1.next
-  again :
-      (more : List ℕ) → AreFrom x.0.1.next more
-      → entry_of (numbering live) most (with_taken state more) bytes ≡ Ok ((x.0.0, with_taken x.0.1 more), x.1)
+at_err : {A : Type 0} (n place : ℕ) (r : Result A ℕ) → r ≡ Err place → Within n r → place ≤ n
+at_err n place (Ok x) e w = absurd cc
+at_err n place (Err other) e w = let same : place ≡ other = cc in omega (arith, same, w)
 
-entry_more : (live : List StorePrefix) (most : ℕ) (state next : Numbers) (bytes : List ℕ) (number : ℕ) (behind : List ℕ) (changes : List Change)
-    (rest : List ℕ) → number_of 8 bytes ≡ Ok (number, behind) → is_next state number ≡ true → has_room (numbering live) state number behind ≡ true
-    → changes_of (prefix_fits live) most behind ≡ Ok (changes, rest) → after state (entry number changes) ≡ Some next
-    → EntryAgain live most state bytes ((entry number changes, next), rest)
-entry_more live most state next bytes number behind changes rest first fits room read comes = record {
-  grows = follow_grows live state next (entry number changes ∷ []) (fits, next, comes, refl);
-  again = λ more all.
-      let f = follow_more live state next (entry number changes ∷ []) more all (fits, next, comes, refl) in
-      let room_too : has_room (numbering live) (with_taken state more) number behind ≡ true = same_room live state more number behind ∙ room in
-      let comes_too : after (with_taken state more) (entry number changes) ≡ Some (with_taken next more) = f.2 ∙ ap (λ (s : Numbers). Some s) f.3 in
-      entry_reads (numbering live) most (with_taken state more) (with_taken next more) bytes number behind changes rest
-      first f.0 room_too read comes_too;
-}
+-- where the batches lie inside, so does the refused place
+pub place_within : (live : List StorePrefix) (most : ℕ) (state : Numbers) (size place : ℕ) (payloads : List (List ℕ)) (end : End) → LiesInside size payloads end
+    → batches_of live most state 9 payloads ≡ Err place → place ≤ size
+place_within live most state size place payloads (Closed tail) inside e =
+    let h : place ≤ 9 + sum_by need_of payloads = at_err (9 + sum_by need_of payloads) place (batches_of live most state 9 payloads) e (batches_within live most state 9 payloads) in
+    omega (arith, h, inside.0, inside.1)
+place_within live most state size place payloads (CutOff cut) inside e =
+    let h : place ≤ 9 + sum_by need_of payloads = at_err (9 + sum_by need_of payloads) place (batches_of live most state 9 payloads) e (batches_within live most state 9 payloads) in
+    omega (arith, h, inside.0, inside.1)
 
-entry_again : (live : List StorePrefix) (most : ℕ) (state : Numbers) (bytes : List ℕ) (x : (Entry × Numbers) × List ℕ)
-    → entry_of (numbering live) most state bytes ≡ Ok x → EntryAgain live most state bytes x
-unfolding entry_of
-entry_again live most state bytes x e =
-    let rule = numbering live in
-    let a = bind_ok (number_of 8 bytes) (from_number rule most state bytes) x e in
-    let number = a.0.0 in
-    let b = bind_ok (ensure (rule.number_fits state number) (length bytes)) (λ next. from_next rule most state bytes a.0) x a.2 in
-    let r = bind_ok (ensure (has_room rule state number a.0.1) (length bytes)) (λ room. from_room rule most state bytes a.0) x b.2 in
-    let c = bind_ok (changes_of rule.prefix_fits most a.0.1) (from_changes rule state bytes number) x r.2 in
-    let made = entry number c.0.0 in
-    let d = bind_ok (given (rule.after state made) (length bytes)) (λ after. Ok ((made, after), c.0.1)) x c.2 in
-    subst (λ (y : (Entry × Numbers) × List ℕ). EntryAgain live most state bytes y) (ok_is ((made, d.0), c.0.1) x d.2)
-    (entry_more live most state d.0 bytes number a.0.1 c.0.0 c.0.1 a.1 (ensure_ok _ _ _ b.1) (ensure_ok _ _ _ r.1) c.1 (given_ok _ _ _ d.1))
+pub fault_within : (fault : SegmentFault) (live : List StorePrefix) (most : ℕ) (state : Numbers) (size place : ℕ) (payloads : List (List ℕ)) (end : End)
+    → LiesInside size payloads end → Refuses fault (batches_of live most state 9 payloads) → fault ≡ Damaged place → place ≤ size
+fault_within (Damaged other) live most state size place payloads end inside refused e =
+    let same : place ≡ other = cc in
+    subst (λ (n : ℕ). n ≤ size) (sym same) (place_within live most state size other payloads end inside refused)
+fault_within NoMemory live most state size place payloads end inside refused e = absurd cc
 
--- ---- entries
+-- what a failed call hands on
+same_fault : {X : Type 0} (r : Result X SegmentFault) (fault other : SegmentFault) → r ≡ Err fault → r ≡ Err other → fault ≡ other
+same_fault r fault other e f = cc
 
-record EntriesAgain (live : List StorePrefix) (most : ℕ) (state : Numbers) (n : ℕ) (bytes : List ℕ)
-    (x : (List Entry × Numbers) × List ℕ) : Type 0 where
-  grows : state.next ≤ x.0.1.next
-  again :
-      (more : List ℕ) → AreFrom x.0.1.next more
-      → entries_of (numbering live) most (with_taken state more) n bytes ≡ Ok ((x.0.0, with_taken x.0.1 more), x.1)
+pub result_within : {X : Type 0} (r : Result X SegmentFault) (fault : SegmentFault) (live : List StorePrefix) (most : ℕ) (state : Numbers) (size place : ℕ)
+    (payloads : List (List ℕ)) (end : End) → r ≡ Err fault → LiesInside size payloads end → Refuses fault (batches_of live most state 9 payloads)
+    → r ≡ Err (Damaged place) → place ≤ size
+result_within r fault live most state size place payloads end is inside refused e =
+    fault_within fault live most state size place payloads end inside refused (same_fault r fault (Damaged place) is e)
 
-entries_read : {S : Type 0} (rule : Rule S) (most : ℕ) (state next last : S) (n : ℕ) (bytes : List ℕ) (e : Entry) (es : List Entry)
-    (behind rest : List ℕ)
-    → entry_of rule most state bytes ≡ Ok ((e, next), behind) → entries_of rule most next n behind ≡ Ok ((es, last), rest)
-    → entries_of rule most state (suc n) bytes ≡ Ok ((e ∷ es, last), rest)
-unfolding entries_of
-entries_read rule most state next last n bytes e es behind rest first others = rw (first, others) refl
+-- ---- a segment by its batches
 
-entries_again : (live : List StorePrefix) (most : ℕ) (state : Numbers) (n : ℕ) (bytes : List ℕ) (x : (List Entry × Numbers) × List ℕ)
-    → entries_of (numbering live) most state n bytes ≡ Ok x → EntriesAgain live most state n bytes x
-unfolding entries_of
-entries_again live most state zero bytes x e =
-    subst (λ (y : (List Entry × Numbers) × List ℕ). EntriesAgain live most state zero bytes y) (ok_is (([], state), bytes) x e)
-    (record { grows = omega arith; again = λ more all. refl })
-entries_again live most state (suc n) bytes x e =
-    let rule = numbering live in
-    let a = bind_ok (entry_of rule most state bytes) (other_entries_of rule most n) x e in
-    let b = bind_ok (entries_of rule most a.0.0.1 n a.0.1) (λ others. Ok ((a.0.0.0 ∷ others.0.0, others.0.1), others.1)) x a.2 in
-    let first = entry_again live most state bytes a.0 a.1 in
-    let others = entries_again live most a.0.0.1 n a.0.1 b.0 b.1 in
-    let low : state.next ≤ a.0.0.1.next = first.grows in
-    let high : a.0.0.1.next ≤ b.0.0.1.next = others.grows in
-    subst (λ (y : (List Entry × Numbers) × List ℕ). EntriesAgain live most state (suc n) bytes y) (ok_is ((a.0.0.0 ∷ b.0.0.0, b.0.0.1), b.0.1) x b.2)
-    (record {
-      grows = omega (arith, low, high);
-      again = λ more all.
-          entries_read rule most (with_taken state more) (with_taken a.0.0.1 more) (with_taken b.0.0.1 more) n bytes a.0.0.0 b.0.0.0 a.0.1 b.0.1
-          (first.again more (lower a.0.0.1.next b.0.0.1.next more high all)) (others.again more all);
-    })
-
--- ---- batches
-
-payload_reads : {S : Type 0} (rule : Rule S) (most : ℕ) (state : S) (bytes : List ℕ) (n : ℕ) (behind : List ℕ) (read : List Entry × S) (rest : List ℕ)
-    → number_of 4 bytes ≡ Ok (n, behind) → nat_lt 0 n ≡ true → entries_of rule most state n behind ≡ Ok (read, rest)
-    → (length rest == 0) ≡ true → payload_of rule most state bytes ≡ Ok read
-unfolding payload_of
-payload_reads rule most state bytes n behind read rest first some others ended = rw (first, some, others, ended) refl
-
-payload_more : (live : List StorePrefix) (most : ℕ) (state : Numbers) (bytes : List ℕ) (x : List Entry × Numbers) (more : List ℕ)
-    → AreFrom x.1.next more → payload_of (numbering live) most state bytes ≡ Ok x
-    → payload_of (numbering live) most (with_taken state more) bytes ≡ Ok (x.0, with_taken x.1 more)
-unfolding payload_of
-payload_more live most state bytes x more all e =
-    let rule = numbering live in
-    let a = bind_ok (number_of 4 bytes)
-    (λ count. ensure (nat_lt 0 count.0) (length bytes) >>= λ some. (entries_of rule most state count.0 count.1 >>= ended_of bytes)) x e in
-    let b = bind_ok (ensure (nat_lt 0 a.0.0) (length bytes)) (λ some. entries_of rule most state a.0.0 a.0.1 >>= ended_of bytes) x a.2 in
-    let c = bind_ok (entries_of rule most state a.0.0 a.0.1) (ended_of bytes) x b.2 in
-    let d = bind_ok (ensure (length c.0.1 == 0) (4 + length bytes)) (λ ended. Ok c.0.0) x c.2 in
-    let is : c.0.0 ≡ x = ok_is c.0.0 x d.2 in
-    let from : AreFrom c.0.0.1.next more = subst (λ (y : List Entry × Numbers). AreFrom y.1.next more) (sym is) all in
-    let read = (entries_again live most state a.0.0 a.0.1 c.0 c.1).again more from in
-    payload_reads rule most (with_taken state more) bytes a.0.0 a.0.1 (c.0.0.0, with_taken c.0.0.1 more) c.0.1 a.1
-    (ensure_ok _ _ _ b.1) read (ensure_ok _ _ _ d.1)
-    ∙ ap (λ (y : List Entry × Numbers). Ok (y.0, with_taken y.1 more)) is
-
-batches_more : (live : List StorePrefix) (most : ℕ) (state : Numbers) (gate : ℕ) (payloads : List (List ℕ)) (x : List Entry × Numbers) (more : List ℕ)
-    → AreFrom x.1.next more → batches_of live most state gate payloads ≡ Ok x
-    → Reads live most (with_taken state more) payloads (x.0, with_taken x.1 more)
-batches_more live most state gate [] x more all e =
-    subst (λ (y : List Entry × Numbers). Reads live most (with_taken state more) [] (y.0, with_taken y.1 more)) (none_read live most state gate x e)
-    (reads_none live most (with_taken state more))
-batches_more live most state gate (payload ∷ payloads) x more all e =
-    let f = first_of live most state gate payload payloads x e in
-    let from : AreFrom f.others.1.next more = subst (λ (y : List Entry × Numbers). AreFrom y.1.next more) f.is all in
-    let grows = follow_grows live f.first.1 f.others.1 f.others.0 (batches_follow live most f.first.1 f.gate payloads f.others f.rest) in
-    let first = payload_more live most state payload f.first more (lower f.first.1.next f.others.1.next more grows from) f.read in
-    let others = batches_more live most f.first.1 f.gate payloads f.others more from f.rest in
-    subst (λ (y : List Entry × Numbers). Reads live most (with_taken state more) (payload ∷ payloads) (y.0, with_taken y.1 more)) (sym f.is)
-    (reads_first live most (with_taken state more) payload payloads (f.first.0, with_taken f.first.1 more)
-    (f.others.0, with_taken f.others.1 more) first others)
-
-pub segment_more : (live : List StorePrefix) (most : ℕ) (start : Numbers) (payloads : List (List ℕ)) (tail : Tail) (entries : List Entry)
-    (last : Numbers) (more : List ℕ) → AreFrom last.next more → segment_of live most start payloads (Closed tail) ≡ Ok (entries, last)
-    → segment_of live most (with_taken start more) payloads (Closed tail) ≡ Ok (entries, with_taken last more)
-segment_more live most start payloads tail entries last more all e =
-    let read = closed_read live most start payloads (Closed tail) (entries, last) e in
-    rw (batches_more live most start 9 payloads (entries, last) more all read 9) refl
+-- what was read of the batches is what a segment that ends in a closed gate says
+pub segment_is : (live : List StorePrefix) (most next : ℕ) (taken : List ℕ) (size room : ℕ) (read batches : List Payload) (tail : Tail) (x : List Entry × Numbers)
+    → room ≡ size - 64 → read ≡ batches → batches_of live most (record { next = next; taken = taken; room = room }) 9 (payloads_of read) ≡ Ok x
+    → segment_of live most (starting next taken size) (payloads_of batches) (Closed tail) ≡ Ok x
+segment_is live most next taken size room read batches tail x is same e =
+    let moved : batches_of live most (starting next taken size) 9 (payloads_of batches) ≡ Ok x =
+    subst (λ (r : ℕ). batches_of live most (record { next = next; taken = taken; room = r }) 9 (payloads_of batches) ≡ Ok x) is
+    (subst (λ (bs : List Payload). batches_of live most (record { next = next; taken = taken; room = room }) 9 (payloads_of bs) ≡ Ok x) same e) in
+    ap (λ r. r >>= ended (Closed tail)) moved

@@ -8,7 +8,7 @@ use Rattle.wal.specs.Charges.{charges}
 use Rattle.wal.specs.Logged.{entry_of, entries_of}
 use Rattle.wal.specs.Numbered.{AreNumbered, AreSmall, IsRun}
 use Rattle.wal.specs.Numbering.{Numbers, last_number, numbering}
-use Rattle.wal.specs.NumberingLaws.{all_charges, all_small, next_small, counted, follow_run}
+use Rattle.wal.specs.laws.Numbering.{all_charges, all_small, next_small, counted, follow_run}
 use Rattle.wal.specs.declared.commit.Commit.{Commit}
 use Rattle.wal.specs.declared.live.StorePrefix.{StorePrefix}
 

@@ -2,9 +2,13 @@
 use Rattle.std.specs.Prelude.{◌≡◌, ℕ, zero, suc, ◌+◌, ◌≤◌, ◌<◌, List, [], ◌∷◌, ◌++◌, length}
 use Rattle.std.specs.List.{flat_map}
 use Rattle.std.specs.Prelude.{map, take}
-use Rattle.std.proofs.Common.{sym, ap, subst, ◌∙◌, append_assoc, arith, get_or, length-append}
-use Rattle.std.proofs.lemmas.List.{length-map, get_or-map, take_more, map_push, flat_map_more}
-use Rattle.hse_fields.specs.LogText.{Change, change_text}
+use Rattle.std.proofs.Common.{refl, sym, ap, subst, ◌∙◌, append_assoc, arith, get_or, length-append}
+use Rattle.std.proofs.lemmas.List.{length-map, take_at, get_or-map, take_more, map_push, flat_map_more}
+use Rattle.byteorder.specs.Endian.{big_bytes}
+use Rattle.hse_fields.specs.LogReading.{change}
+use Rattle.hse_fields.specs.LogText.{Kind, put, del, pdel, Change, code, change_text, head_text}
+use Rattle.hse_rows.specs.declared.write.Write.{Write}
+use Rattle.wal.specs.Logged.{logged, logged_all}
 
 pub part_length : {X : Type 0} (f : X → List ℕ) (xs : List X) (i : ℕ) (d : X) → i < length xs
     → length (f (get_or xs i d)) ≤ length (flat_map f xs)
@@ -53,3 +57,39 @@ pub four_pieces : (start a b c d x y z w : List ℕ) → a ≡ start ++ x → b 
 four_pieces start a b c d x y z w e f g h =
     h ∙ ap (λ (l : List ℕ). l ++ w) (three_pieces start a b c x y z e f g) ∙ append_assoc start (x ++ (y ++ z)) w
     ∙ ap (λ (l : List ℕ). start ++ l) (append_assoc x (y ++ z) w ∙ ap (λ (l : List ℕ). x ++ l) (append_assoc y z w))
+
+-- ---- an entry that is put change by change
+
+-- bytes, and an entry with its head and its first changes behind them
+abbrev pub begun : List ℕ → ℕ → List Change → List Change → List ℕ
+begun front number all changes = front ++ (big_bytes 8 number ++ (big_bytes 4 (length all) ++ flat_map change_text changes))
+
+regroup : (front a b c : List ℕ) → front ++ (a ++ (b ++ c)) ≡ (front ++ (a ++ b)) ++ c
+regroup front a b c = sym (append_assoc front (a ++ b) c ∙ ap (λ (l : List ℕ). front ++ l) (append_assoc a b c))
+
+-- one change more is put
+pub begun-more : (front : List ℕ) (number : ℕ) (all : List Change) (ws : List Write) (i : ℕ) (w : Write) (old new : List ℕ) → i < length ws
+    → get_or ws i w ≡ w → old ≡ begun front number all (logged_all (take i ws)) → new ≡ old ++ change_text (logged w)
+    → new ≡ begun front number all (logged_all (take (i + 1) ws))
+begun-more front number all ws i w old new lt is so_far next =
+    let head = big_bytes 8 number in
+    let count = big_bytes 4 (length all) in
+    one_more change_text logged ws i w (front ++ (head ++ count)) old new lt is (so_far ∙ regroup front head count (flat_map change_text (logged_all (take i ws)))) next
+    ∙ sym (regroup front head count (flat_map change_text (logged_all (take (i + 1) ws))))
+
+-- what was put is cut off again
+pub cut_back : (front : List ℕ) (number : ℕ) (all changes : List Change) (bytes : List ℕ) → bytes ≡ begun front number all changes → take (length front) bytes ≡ front
+cut_back front number all changes bytes e =
+    ap (take (length front)) e ∙ take_at front (big_bytes 8 number ++ (big_bytes 4 (length all) ++ flat_map change_text changes)) (length front) refl
+
+-- ---- what the code spells
+
+pub put_spelled : (store : ℕ) (key value : List ℕ)
+    → 1 ∷ (big_bytes 8 store ++ (big_bytes 2 (length key) ++ (key ++ (big_bytes 4 (length value) ++ value)))) ≡ change_text (change put store key value)
+put_spelled store key value = simp append_assoc
+
+pub name_spelled : (kind : Kind) (store : ℕ) (name : List ℕ)
+    → code kind ∷ (big_bytes 8 store ++ (big_bytes 2 (length name) ++ name)) ≡ head_text kind store name
+name_spelled put store name = refl
+name_spelled del store name = refl
+name_spelled pdel store name = refl

@@ -1,10 +1,10 @@
--- What the readers of this crate give is what reading gives on lists, unless memory is refused.
+-- What the readers of this crate give is what reading gives on lists, unless it is out of memory.
 use Rattle.std.specs.Prelude.{◌≡◌, ℕ, ◌+◌, ◌≤◌, Result, Ok, Err}
 use Rattle.hse_fields.specs.LogText as log
 use Rattle.wal.specs.declared.refusal.Refusal.{Refusal}
 use Rattle.wal.specs.declared.refusal.Refusal.TheVariants.{Left, NoMemory}
 use Rattle.wal.specs.declared.segment.SegmentFault.{SegmentFault}
-use Rattle.wal.specs.declared.segment.SegmentFault.TheVariants.{Damaged, Device}
+use Rattle.wal.specs.declared.segment.SegmentFault.TheVariants.{Damaged}
 use Rattle.wal.specs.declared.segment.SegmentFault.TheVariants as segment
 use Rattle.wal.specs.declared.kind.Kind.{Kind}
 use Rattle.wal.specs.declared.kind.Kind.TheVariants.{Put, Del, PDel}
@@ -17,11 +17,6 @@ abbrev pub Gives : {X Y : Type 0} → (X → Y) → Result X Refusal → Result 
 Gives view (Ok x) read = read ≡ Ok (view x)
 Gives view (Err refusal) read = Fails refusal read
 
--- the refused field is no more than 4 bytes before the last n, where the batch's length stands
-abbrev pub LiesBehind : ℕ → Refusal → Type 0
-LiesBehind n (Left left) = left ≤ 4 + n
-LiesBehind n NoMemory = Unit {0}
-
 abbrev pub kind_as : Kind → log.Kind
 kind_as Put = log.put
 kind_as Del = log.del
@@ -31,7 +26,6 @@ kind_as PDel = log.pdel
 abbrev pub Refuses : {Y : Type 0} → SegmentFault → Result Y ℕ → Type 0
 Refuses (Damaged place) read = read ≡ Err place
 Refuses segment.NoMemory read = Unit {0}
-Refuses Device read = ⊥
 
 abbrev pub Tells : {X Y : Type 0} → (X → Y) → Result X SegmentFault → Result Y ℕ → Type 0
 Tells view (Ok x) read = read ≡ Ok (view x)

@@ -8,8 +8,9 @@ pub mod Expected
 pub mod Given
 pub mod Replaying
 pub mod Numbered
-pub mod NumberingLaws
-pub mod BatchLaws
 pub mod Writable
+pub mod Stores
 pub mod Taken
 pub mod Sound
+pub mod Batches
+pub mod laws

@@ -4,8 +4,6 @@ use Rattle.gate_log.specs.Places.{need_of}
 use Rattle.gate_log.specs.Reading.{Ends}
 use Rattle.gate_log.specs.declared.front.End.{End}
 use Rattle.gate_log.specs.declared.front.End.TheVariants.{Closed, CutOff}
-use Rattle.gate_log.specs.declared.front.FrontFault.{FrontFault}
-use Rattle.gate_log.specs.declared.front.FrontFault.TheVariants as front
 use Rattle.hse_fields.specs.LogText.{Entry}
 use Rattle.hse_fields.specs.LogReading.{◌>>=◌, payload_of}
 use Rattle.wal.specs.Charges.{charges}
@@ -14,7 +12,7 @@ use Rattle.wal.specs.Numbering.{Numbers, numbering}
 use Rattle.wal.specs.declared.live.StorePrefix.{StorePrefix}
 use Rattle.wal.specs.declared.segment.Segment.{Segment}
 use Rattle.wal.specs.declared.segment.SegmentFault.{SegmentFault}
-use Rattle.wal.specs.declared.segment.SegmentFault.TheVariants.{Damaged, Device, NoMemory}
+use Rattle.wal.specs.declared.segment.SegmentFault.TheVariants.{Damaged, NoMemory}
 
 -- a refusal so many bytes before this place, as the place of the refused field
 abbrev pub before : {X : Type 0} → ℕ → Result X ℕ → Result X ℕ
@@ -51,6 +49,19 @@ pub record IsSegment (region : List ℕ) (live : List StorePrefix) (most : ℕ) 
   pub next : segment.next ≡ last.next
   pub charges : segment.charges ≡ charges (entries_of segment.commits.items)
 
+-- what was read of batches is the segment
+pub record IsRead (read : Result (List Entry × Numbers) ℕ) (segment : Segment) : Type 0 where
+  pub last : Numbers
+  pub is : read ≡ Ok (entries_of segment.commits.items, last)
+  pub next : segment.next ≡ last.next
+  pub charges : segment.charges ≡ charges (entries_of segment.commits.items)
+
+-- The answer is what was read.
+abbrev pub Says : Result (List Entry × Numbers) ℕ → Result Segment SegmentFault → Type 0
+Says read (Ok segment) = IsRead read segment
+Says read (Err (Damaged place)) = read ≡ Err place
+Says read (Err NoMemory) = Unit {0}
+
 -- the region is refused at this place
 pub record IsRefused (region : List ℕ) (live : List StorePrefix) (most : ℕ) (start : Numbers) (place : ℕ) : Type 0 where
   pub sequence : ℕ
@@ -63,10 +74,4 @@ pub record IsRefused (region : List ℕ) (live : List StorePrefix) (most : ℕ) 
 abbrev pub IsReplay : List ℕ → List StorePrefix → ℕ → Numbers → Result Segment SegmentFault → Type 0
 IsReplay region live most start (Ok segment) = IsSegment region live most start segment
 IsReplay region live most start (Err (Damaged place)) = IsRefused region live most start place
-IsReplay region live most start (Err Device) = Unit {0}
 IsReplay region live most start (Err NoMemory) = Unit {0}
-
--- the fault is the same
-abbrev pub IsSameFault : FrontFault → SegmentFault → Type 0
-IsSameFault front.Device fault = fault ≡ Device
-IsSameFault front.NoMemory fault = fault ≡ NoMemory

@@ -7,62 +7,15 @@ ghost use Rattle.wal.specs.Given.{Gives, kind_as};
 ghost use Rattle.wal.specs.Live.{prefix_fits};
 ghost use Rattle.wal.specs.Logged.{last_of, logged, logged_change};
 
-use crate::StorePrefix;
-use crate::field::{byte_at, bytes_at, size_in_limits, u16_at, u64_at, value_at};
 use crate::kind::{Kind, kind_of_byte};
 use crate::live::name_may;
 use crate::order::{may_front_follow, may_kind_follow, may_store_follow};
+use crate::reader::Reader;
 use crate::refusal::Refusal;
+use hse_fields::{take_bytes, take_u8, take_u16, take_u64};
 use hse_io::NoMemory;
 use hse_rows::{Change, Key, KeyFault, Prefix, PrefixFault, StoreId, Value, ValueFault, Write};
 use std::alloc::Global;
-
-/// The kind of a change behind the last one.
-#[tactic(auto, unfolding(hse_fields::specs::LogReading::kind_of))]
-fn kind_at<'a>(last: Option<&Write>, bytes: &'a [u8]) -> Result<(Kind, &'a [u8]), Refusal>
-    ensures { Gives (λ x. (kind_as x.0, x.1.now)) result
-        (kind_of (last_of last.entry) bytes.now) }
-{
-    let (byte, rest) = byte_at(bytes)?;
-    let Some(kind) = kind_of_byte(byte) else {
-        return Err(Refusal::Left(bytes.len() as u64));
-    };
-    if !may_kind_follow(last, kind) {
-        return Err(Refusal::Left(bytes.len() as u64));
-    }
-    Ok((kind, rest))
-}
-
-/// A change's name behind its length, for a change with so many bytes from its first one on. The order
-/// is tested before the length, since a change that breaks it is refused at its first byte, which is the
-/// lower place.
-#[tactic(auto, unfolding(hse_fields::specs::LogReading::name_of))]
-fn name_at<'a>(
-    live: &[StorePrefix],
-    last: Option<&Write>,
-    left: u64,
-    kind: Kind,
-    store: u64,
-    bytes: &'a [u8],
-) -> Result<(&'a [u8], &'a [u8]), Refusal>
-    ensures gives { Gives (λ x. (x.0.now, x.1.now)) result
-        (name_of (prefix_fits live.now) (last_of last.entry) left (kind_as kind) store bytes.now) }
-    ensures some { IfOk result (λ x. 1 ≤ length x.0.now) }
-    ensures short { IfOk result (λ x. length x.0.now ≤ longest_name (kind_as kind)) }
-{
-    let (size, rest) = u16_at(bytes)?;
-    let size = size as u64;
-    if !may_front_follow(last, kind, store, size, rest) {
-        return Err(Refusal::Left(left));
-    }
-    if !size_in_limits(kind, size) {
-        return Err(Refusal::Left(bytes.len() as u64));
-    }
-    if !name_may(live, kind, store, size) {
-        return Err(Refusal::Left(bytes.len() as u64));
-    }
-    bytes_at(size, rest)
-}
 
 fn key_of(alloc: Global, name: &[u8]) -> Result<Key, NoMemory>
     requires { IsKeyLength (length name.now) }
@@ -97,7 +50,7 @@ fn value_of(alloc: Global, bytes: &[u8]) -> Result<Value, NoMemory>
 }
 
 /// The change of this kind; a change that is no put has no value.
-fn made(alloc: Global, kind: Kind, name: &[u8], value: &[u8]) -> Result<Change, NoMemory>
+fn change_with(alloc: Global, kind: Kind, name: &[u8], value: &[u8]) -> Result<Change, NoMemory>
     requires some { 1 ≤ length name.now }
     requires short { length name.now ≤ longest_name (kind_as kind) }
     requires none { ValueFits (length value.now) (kind_as kind) value.now }
@@ -115,26 +68,79 @@ fn made(alloc: Global, kind: Kind, name: &[u8], value: &[u8]) -> Result<Change, 
     }
 }
 
-/// A change behind the last one of its commit, its value of at most so many bytes.
-#[tactic(auto, unfolding(hse_fields::specs::LogReading::change_of))]
-pub(crate) fn change_at<'a>(
-    alloc: Global,
-    most: u64,
-    live: &[StorePrefix],
-    last: Option<&Write>,
-    bytes: &'a [u8],
-) -> Result<(Write, &'a [u8]), Refusal>
-    ensures { Gives (λ x. (logged x.0, x.1.now)) result
-        (change_of (prefix_fits live.now) most (last_of last.entry) bytes.now) }
-{
-    let (kind, rest) = kind_at(last, bytes)?;
-    let (store, rest) = u64_at(rest)?;
-    if !may_store_follow(last, kind, store) {
-        return Err(Refusal::Left(bytes.len() as u64));
+impl<'b, 'a> Reader<'b, 'a> {
+    /// The kind of a change behind the last one.
+    #[tactic(auto, unfolding(hse_fields::specs::LogReading::kind_of))]
+    fn kind(self, last: Option<&Write>) -> Result<(Kind, &'b [u8]), Refusal>
+        ensures { Gives (λ x. (kind_as x.0, x.1.now)) result
+            (kind_of (last_of last.entry) self.entry.bytes.now) }
+    {
+        let (byte, rest) = take_u8(self.bytes)?;
+        let Some(kind) = kind_of_byte(byte) else {
+            return Err(self.refusal());
+        };
+        if !may_kind_follow(last, kind) {
+            return Err(self.refusal());
+        }
+        Ok((kind, rest))
     }
-    let (name, rest) = name_at(live, last, bytes.len() as u64, kind, store, rest)?;
-    let (value, rest) = value_at(kind, most, rest)?;
-    let change = made(alloc, kind, name, value)?;
-    let store = StoreId(store);
-    Ok((Write { store, change }, rest))
+
+    /// The name behind its length, of a change of this kind and store with so many bytes from its first one
+    /// on. The order is tested before the length, since a change that breaks it is refused at its first
+    /// byte, which is the lower place.
+    #[tactic(auto, unfolding(hse_fields::specs::LogReading::name_of))]
+    fn name(
+        self,
+        last: Option<&Write>,
+        left: u64,
+        kind: Kind,
+        store: u64,
+    ) -> Result<(&'b [u8], &'b [u8]), Refusal>
+        ensures gives { Gives (λ x. (x.0.now, x.1.now)) result
+            (name_of (prefix_fits self.entry.live.now) (last_of last.entry) left (kind_as kind) store
+            self.entry.bytes.now) }
+        ensures some { IfOk result (λ x. 1 ≤ length x.0.now) }
+        ensures short { IfOk result (λ x. length x.0.now ≤ longest_name (kind_as kind)) }
+    {
+        let (size, rest) = take_u16(self.bytes)?;
+        let size = size as u64;
+        if !may_front_follow(last, kind, store, size, rest) {
+            return Err(Refusal::Left(left));
+        }
+        if !kind.may_have(size) {
+            return Err(self.refusal());
+        }
+        if !name_may(self.live, kind, store, size) {
+            return Err(self.refusal());
+        }
+        Ok(take_bytes(rest, size)?)
+    }
+
+    /// A change behind the last one of its commit.
+    #[tactic(auto, unfolding(hse_fields::specs::LogReading::change_of))]
+    pub(crate) fn change(self, last: Option<&Write>) -> Result<(Write, &'b [u8]), Refusal>
+        ensures { Gives (λ x. (logged x.0, x.1.now)) result
+            (change_of (prefix_fits self.entry.live.now) self.entry.most (last_of last.entry)
+            self.entry.bytes.now) }
+    {
+        let left = self.bytes.len() as u64;
+        let (kind, rest) = self.kind(last)?;
+        let (store, rest) = take_u64(rest)?;
+        if !may_store_follow(last, kind, store) {
+            return Err(self.refusal());
+        }
+        let (name, rest) = Reader {
+            bytes: rest,
+            ..self
+        }
+        .name(last, left, kind, store)?;
+        let (value, rest) = Reader {
+            bytes: rest,
+            ..self
+        }
+        .value(kind)?;
+        let change = change_with(self.alloc, kind, name, value)?;
+        let store = StoreId(store);
+        Ok((Write { store, change }, rest))
+    }
 }

@@ -14,10 +14,10 @@ pub(crate) struct Expected<'a> {
 }
 
 /// The greatest number of a history.
-pub(crate) const LAST_NUMBER: u64 = 4_611_686_018_427_387_904;
+pub(crate) const GREATEST_NUMBER: u64 = 4_611_686_018_427_387_904;
 
 /// The first number from this one on that is not taken, and the taken numbers behind it.
-pub(crate) fn free(next: u64, taken: &[u64]) -> (u64, &[u64])
+pub(crate) fn first_free(next: u64, taken: &[u64]) -> (u64, &[u64])
     requires { next + length taken.now < 2 ^ 64 }
     ensures number { result.0 ≡ free_from next taken.now }
     ensures taken { result.1.now ≡ taken_from next taken.now }

@@ -8,25 +8,26 @@ mod commit;
 mod encode;
 mod entry;
 mod expected;
-mod field;
 mod kind;
-mod laws;
 mod live;
+mod number_laws;
 mod order;
 mod payload;
+mod reader;
 mod refusal;
 mod replay;
 mod segment;
+mod segment_laws;
+mod text_laws;
 
 pub use commit::Commit;
-pub use encode::encode_batch;
-pub use laws::{
-    charge_is_length, commits_are_a_payload, encoded_is_replayed, entries_follow_the_numbers,
-    later_taken_numbers_change_nothing, one_batch_more, one_replay, replayed_is_a_run,
-};
+pub use encode::{encode_batch, put_entry};
 pub use live::StorePrefix;
+pub use number_laws::{
+    entries_follow_the_numbers, later_taken_numbers_change_nothing, numbers_without_a_gap_follow,
+    replayed_is_a_run,
+};
 pub use replay::segment_in;
 pub use segment::{Segment, SegmentFault};
-
-#[cfg(test)]
-mod tests;
+pub use segment_laws::{one_batch_more, one_replay, unnamed_stores_change_nothing};
+pub use text_laws::{charge_is_length, commits_are_a_payload, encoded_is_replayed};

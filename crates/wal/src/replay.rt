@@ -1,11 +1,11 @@
 //! Reads a segment from what its region holds.
 ghost use Rattle.std.specs.Prelude.{◌≡◌, ℕ, ◌+◌, ◌^◌, ◌<◌, ◌≤◌, List, length, Some, IfOk, IsErrOf};
 ghost use Rattle.gate_log.specs.Reading.{payloads_of, IsFront, LiesInside};
-ghost use Rattle.wal.specs.Replaying.{starting, IsReplay};
+ghost use Rattle.wal.specs.Replaying.{segment_of, starting, IsReplay, Says};
 ghost use Rattle.wal.specs.Sound.{IsSound};
 
-use crate::batches::batches_at;
 use crate::expected::Expected;
+use crate::reader::Reader;
 use crate::{Segment, SegmentFault, StorePrefix};
 use gate_log::{End, Front};
 use std::alloc::Global;
@@ -23,17 +23,17 @@ const END: u64 = 64;
 /// commit's number that is not the next one or is above 2^62, a commit that takes more than the
 /// region's size less 64 leaves, at its number, or the length of a batch that does not lie inside the
 /// region. A commit that takes too much is refused before any length in its changes, where these can
-/// be read at all, since its number is the lower place. It is never `Device`.
+/// be read at all, since its number is the lower place.
 ///
 /// The conditions: the batches lie inside a region of this size, and the first number is at most
 /// 2^62 + 1.
-pub fn segment_in(
+pub fn segment_in<'a>(
     alloc: Global,
     size: u64,
     most: u64,
     next: u64,
-    taken: &[u64],
-    live: &[StorePrefix],
+    taken: &'a [u64],
+    live: &'a [StorePrefix],
     front: Front,
 ) -> Result<Segment, SegmentFault>
     requires inside { LiesInside size (payloads_of front.batches.items) front.end }
@@ -41,14 +41,22 @@ pub fn segment_in(
     requires taken { length taken.now < 2 ^ 62 }
     ensures read { (region : List ℕ) → IsFront region (Some front)
         → IsReplay region live.now most (starting next taken.now size) result }
-    // The place lies in the region, or at its end, whatever the device tells.
+    // The same whatever the device tells.
+    ensures gives { Says (segment_of live.now most (starting next taken.now size)
+        (payloads_of front.batches.items) front.end) result }
+    // The place lies in the region, or at its end.
     ensures within { (place : ℕ) → IsErrOf result (SegmentFault.Damaged place) → place ≤ size }
-    ensures device { IsErrOf result SegmentFault.Device → ⊥ }
     ensures sound { IfOk result (IsSound size next taken.now live.now front) }
 {
     let room = size.saturating_sub(END);
-    let expected = Expected { next, taken, room };
-    let (commits, last) = batches_at(alloc, most, live, expected, &front.batches)?;
+    let reader = Reader {
+        alloc,
+        bytes: &[],
+        most,
+        live,
+        expected: Expected { next, taken, room },
+    };
+    let (commits, last) = reader.batches(&front.batches)?;
     match front.end {
         End::CutOff(place) => Err(SegmentFault::Damaged(place)),
         End::Closed(tail) => Ok(Segment {

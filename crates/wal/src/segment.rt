@@ -1,7 +1,7 @@
 //! What a segment of the log holds.
 
 use crate::Commit;
-use gate_log::{FrontFault, Tail};
+use gate_log::Tail;
 use std::alloc::AllocError;
 use thiserror::Error;
 
@@ -23,8 +23,6 @@ pub enum SegmentFault {
     /// At this place in the segment's region, in bytes, stands the first field that is refused.
     #[error("the segment is damaged at byte {0}")]
     Damaged(u64),
-    #[error("the device failed")]
-    Device,
     #[error("out of memory")]
     NoMemory,
 }
@@ -37,18 +35,5 @@ impl From<AllocError> for SegmentFault {
 
     fn from(_: AllocError) -> Self {
         SegmentFault::NoMemory
-    }
-}
-
-impl From<FrontFault> for SegmentFault {
-    ghost use Rattle.wal.specs.Replaying.{IsSameFault};
-
-    ghost from_gives = { λ front fault. IsSameFault front fault };
-
-    fn from(fault: FrontFault) -> Self {
-        match fault {
-            FrontFault::Device => SegmentFault::Device,
-            FrontFault::NoMemory => SegmentFault::NoMemory,
-        }
     }
 }

@@ -1,8 +1,9 @@
 use Rattle.std.proofs.Common.{◌≡◌, ◌∙◌, ◌∷◌, [], List, refl, ap, Ok}
 use Rattle.hse_fields.specs.LogReading.{any, payload_of, Follow, PrefixesFit}
 use Rattle.hse_fields.specs.LogText.{Entry}
-use Rattle.hse_fields.specs.PayloadLaws.{any_prefixes_fit, payload_takes, payload_again}
-use Rattle.hse_fields.specs.WithinLaws.{payload_within}
+use Rattle.hse_fields.specs.laws.AllChanges.{any_prefixes_fit}
+use Rattle.hse_fields.specs.laws.Payloads.{payload_takes, payload_again}
+use Rattle.hse_fields.specs.laws.Within.{payload_within}
 use Rattle.hse_fields.proofs.laws.log_text_is_read.Goals as goal
 
 -- any entries may come one after another

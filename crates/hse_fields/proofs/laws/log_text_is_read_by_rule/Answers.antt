@@ -1,5 +1,5 @@
-use Rattle.hse_fields.specs.PayloadLaws.{payload_takes, payload_again}
-use Rattle.hse_fields.specs.WithinLaws.{payload_within}
+use Rattle.hse_fields.specs.laws.Payloads.{payload_takes, payload_again}
+use Rattle.hse_fields.specs.laws.Within.{payload_within}
 use Rattle.hse_fields.proofs.laws.log_text_is_read_by_rule.Goals as goal
 
 pub returns-clause-read : goal.returns-clause-read

@@ -1,27 +1,43 @@
-use Rattle.std.proofs.Common.{◌≡◌, ◌∙◌, ◌++◌, ℕ, length, ap, sym, arith}
-use Rattle.std.specs.List.{flat_map}
+use Rattle.std.proofs.Common.{◌≡◌, ◌∙◌, ◌++◌, [], ℕ, length, ap, sym, arith}
 use Rattle.std.proofs.lemmas.List.{length-map}
-use Rattle.std.proofs.lemmas.Result.{on_ok_weaker}
 use Rattle.byteorder.specs.Endian.{big_bytes}
 use Rattle.hse_fields.specs.LogText.{change_text}
+use Rattle.hse_rows.specs.Change.{change_of, write_of}
 use Rattle.wal.specs.Logged.{logged, logged_all}
-use Rattle.wal.proofs.TextLemmas.{count_length, change_some, three_pieces}
+use Rattle.wal.proofs.TextLemmas.{begun-more, count_length, change_some, part_of}
 use Rattle.wal.proofs.encode.put_entry.Goals as goal
 
-pub overflow_cast-len : goal.overflow_cast-len
-overflow_cast-len c =
+pub overflow_cast-count : goal.overflow_cast-count
+overflow_cast-count c =
     let writes = c.args.commit.now.writes in
     let count = count_length change_text (logged_all writes) change_some in
-    record { fits = omega (arith, count, c.requires, c.len.ensures.count, length-map writes logged) }
+    record { fits = omega (arith, count, c.requires, c.len-count.ensures.count, length-map writes logged) }
 
-pub returns : goal.returns
-returns c =
+pub loop-place-init : goal.loop-place-init
+loop-place-init c =
     let writes = c.args.commit.now.writes in
-    let count : c.len.result ≡ length (logged_all writes) = c.len.ensures.count ∙ sym (length-map writes logged) in
-    let second : c.put_u32.new.into.items ≡ c.put_u64.new.into.items ++ big_bytes 4 (length (logged_all writes)) =
-    c.in_ok-put_u32.ensures.written ∙ ap (λ (n : ℕ). c.put_u64.new.into.items ++ big_bytes 4 n) count in
-    on_ok_weaker c.put_changes.result
-    (three_pieces c.args.into.now.items c.put_u64.new.into.items c.put_u32.new.into.items c.put_changes.new.into.items
-    (big_bytes 8 c.args.commit.now.number) (big_bytes 4 (length (logged_all writes))) (flat_map change_text (logged_all writes))
-    c.in_ok-put_u64.ensures.written second)
-    c.put_changes.ensures
+    let front = c.args.into.now.items in
+    let number = big_bytes 8 c.args.commit.now.number in
+    let count : c.len-count.result ≡ length (logged_all writes) = c.len-count.ensures.count ∙ sym (length-map writes logged) in
+    let spelled : c.put_pieces.new.into.items ≡ front ++ (number ++ (big_bytes 4 c.len-count.result ++ [])) =
+    simp (c.to_be_bytes.ensures, c.to_be_bytes-2.ensures) at c.in_ok-put_pieces.ensures.written in
+    record { written = spelled ∙ ap (λ (n : ℕ). front ++ (number ++ (big_bytes 4 n ++ []))) count; start = c.len-start.ensures ∙ c.args.into.now.ok.0 }
+
+pub put_change-requires-clause-fits : goal.put_change-requires-clause-fits
+put_change-requires-clause-fits c =
+    let w = write_of c.at.result.0 (change_of c.at.result.1) in
+    let lt = c.len-place-end.ensures.count in
+    let part = part_of change_text logged c.args.commit.now.writes c.loop-place.place w (omega (arith, lt, c.loop-place-test.true)) (c.at.ensures.write w) in
+    omega (arith, part, c.requires)
+
+pub loop-place-preserved : goal.loop-place-preserved
+loop-place-preserved c =
+    let w = write_of c.at.result.0 (change_of c.at.result.1) in
+    let lt = c.len-place-end.ensures.count in
+    let writes = c.args.commit.now.writes in
+    record {
+      written = begun-more c.args.into.now.items c.args.commit.now.number (logged_all writes) writes c.loop-place.place w
+          c.loop-place.into.items c.put_change.new.into.items (omega (arith, lt, c.loop-place-test.true)) (c.at.ensures.write w)
+          c.loop-place.invariant.written c.in_default.ensures.written;
+      start = c.loop-place.invariant.start;
+    }

@@ -1,0 +1,11 @@
+use Rattle.std.proofs.Common.{◌∙◌, ◌++◌, List, ℕ, ap}
+use Rattle.std.proofs.lemmas.List.{append-nil}
+use Rattle.std.proofs.lemmas.Result.{on_ok_weaker}
+use Rattle.wal.specs.Given.{kind_as}
+use Rattle.wal.proofs.TextLemmas.{name_spelled}
+use Rattle.wal.proofs.encode.put_name.Goals as goal
+
+pub returns-clause-written : goal.returns-clause-written
+returns-clause-written c = on_ok_weaker c.put_pieces.result
+    (λ written. written ∙ ap (λ (l : List ℕ). c.args.into.now.items ++ l) (name_spelled (kind_as c.args.kind) c.args.store.0 c.args.name.now))
+    (simp (c.byte.ensures, c.to_be_bytes.ensures, c.to_be_bytes-2.ensures, append-nil) at c.put_pieces.ensures.written)
