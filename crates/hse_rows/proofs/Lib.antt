@@ -38,3 +38,4 @@ pub mod CoreGoes
 pub mod StandLemmas
 pub mod RowCases
 pub mod CoreAnswers
+pub mod CoreLimits
