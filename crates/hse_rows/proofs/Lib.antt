@@ -39,3 +39,4 @@ pub mod StandLemmas
 pub mod RowCases
 pub mod CoreAnswers
 mod MeaningCases
+pub mod CoreLimits

@@ -10,6 +10,7 @@ use Rattle.hse_rows.specs.Turn.{TurnWish, sync, freeze, install, create, drop}
 use Rattle.hse_rows.specs.Replies.{Refusal, Answer, refused, no_memory, device_fault, canceled_held, canceled_since}
 use Rattle.hse_rows.specs.Calls.{Call, begin, write_by, get, commit, abort, list_stores, tree, info, take_place, give_place, pick, build, drop_job, next_job, take, write_turn, end_turn, reopen}
 use Rattle.hse_rows.specs.Core.{Core, Stored, life}
+use Rattle.hse_rows.specs.Limits.{IsWithinLimits}
 use Rattle.hse_rows.specs.CoreStep.{Found, loads, breaks_off, has_version, Step, answer_of, led_to}
 
 -- ---- runs
@@ -159,3 +160,17 @@ abbrev pub CallsAreAnswered : Type 0
 CallsAreAnswered =
     (found : Found) (old : Core) (call : Call)
     → Step found old call (answer_of found old call) (led_to found old call (answer_of found old call))
+
+-- ---- limits
+
+-- what is loaded is within the limits
+abbrev pub LoadsWithinLimits : Found → Type 0
+LoadsWithinLimits (loads stored) = IsWithinLimits (life stored)
+LoadsWithinLimits (breaks_off part place) = Unit {0}
+LoadsWithinLimits (has_version version) = Unit {0}
+
+-- Steps keep within the limits.
+abbrev pub StepsKeepLimits : Type 0
+StepsKeepLimits =
+    (found : Found) (old new : Core) (call : Call) (answer : Answer ℕ)
+    → IsWithinLimits old → LoadsWithinLimits found → Step found old call answer new → IsWithinLimits new

@@ -48,6 +48,7 @@ pub mod CoreRefusal
 pub mod CoreReply
 pub mod CoreDone
 pub mod CoreStep
+pub mod Limits
 pub mod CoreLaws
 pub mod ScriptLines
 pub mod Script

@@ -5,6 +5,7 @@ ghost use Rattle.hse_rows.specs.CoreLaws.{OthersKeepTimelines, OthersKeepCursors
 ghost use Rattle.hse_rows.specs.CoreLaws.{LivesStand, StepsKeepStanding};
 ghost use Rattle.hse_rows.specs.CoreLaws.{AnswersLeadOneWay, RefusalsChangeNothing};
 ghost use Rattle.hse_rows.specs.CoreLaws.{CallsAreAnswered, CallsHaveOneAnswer};
+ghost use Rattle.hse_rows.specs.CoreLaws.{StepsKeepLimits};
 
 /// Snapshot isolation. In every run no two transactions that each began before the other's commit
 /// both committed overlapping writes, and a commit is never canceled.
@@ -40,4 +41,11 @@ pub fn core_answers_lead_one_way()
 pub fn calls_have_one_answer()
     ensures answered { CallsAreAnswered }
     ensures one { CallsHaveOneAnswer }
+{}
+
+/// The log's commits have room in their segment and at most three layers are frozen, the manifest's
+/// batches have room in their half, no more slots are used than there are, numbers and counts are
+/// within their limits, and what is safe is between the base and the last number.
+pub fn calls_keep_limits()
+    ensures { StepsKeepLimits }
 {}

@@ -20,7 +20,7 @@ mod write_set;
 
 pub use change::{Change, ChangeRef};
 pub use core_laws::{
-    calls_have_one_answer, core_answers_lead_one_way, others_keep_timelines, runs_are_isolated,
+    calls_have_one_answer, calls_keep_limits, core_answers_lead_one_way, others_keep_timelines, runs_are_isolated,
     timelines_stand,
 };
 pub use edge::Edge;

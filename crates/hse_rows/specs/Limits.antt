@@ -1,0 +1,50 @@
+-- What keeps within the limits of a device and of the engine.
+use Rattle.std.specs.Prelude.{ℕ, ◌+◌, ◌≤◌, List, length}
+use Rattle.hse_rows.specs.State.{State}
+use Rattle.hse_rows.specs.History.{Event, folded, last_number}
+use Rattle.hse_rows.specs.Sizes.{Sizes}
+use Rattle.hse_rows.specs.Log.{LogState, most_frozen, charge_of_active, room_of}
+use Rattle.hse_rows.specs.ManifestRoom.{ManifestState, greatest_sequence}
+use Rattle.hse_rows.specs.Turn.{Plan, settles, enters, removes, installs, Turn, home, taken, ran}
+use Rattle.hse_rows.specs.Core.{Core, number_of, most_jobs, most_cursors, greatest_number}
+
+pub record HistoryFits (sizes : Sizes) (base : State) (events : List Event) : Type 0 where
+  pub numbers : last_number base events ≤ greatest_number
+  pub stores : length (folded base events).stores ≤ sizes.most_stores
+
+pub record LogFits (sizes : Sizes) (log : LogState) : Type 0 where
+  -- the commits of the active layer have room in their segment
+  pub room : charge_of_active log ≤ room_of sizes.segment_size
+  pub layers : length log.frozen ≤ most_frozen
+  -- the active segment's sequence
+  pub segments : log.first_segment + length log.frozen ≤ greatest_sequence
+
+pub record ManifestFits (sizes : Sizes) (manifest : ManifestState) : Type 0 where
+  -- the batches have room in their half
+  pub used : manifest.used ≤ sizes.half_size
+  pub sequence : manifest.sequence ≤ greatest_sequence
+
+-- the manifest after a turn
+abbrev pub PlanFits : Sizes → Plan → Type 0
+PlanFits sizes settles = Unit {0}
+PlanFits sizes (enters manifest) = ManifestFits sizes manifest
+PlanFits sizes (removes id manifest) = ManifestFits sizes manifest
+PlanFits sizes (installs id work new manifest) = ManifestFits sizes manifest
+
+-- A turn's number is between what is safe and the last number.
+abbrev pub TurnFits : Sizes → ℕ → ℕ → Turn → Type 0
+TurnFits sizes safe number home = Unit {0}
+TurnFits sizes safe number (taken turn) = (safe ≤ turn.number) × (turn.number ≤ number) × PlanFits sizes turn.plan
+TurnFits sizes safe number (ran turn has_failed) = (safe ≤ turn.number) × (turn.number ≤ number) × PlanFits sizes turn.plan
+
+pub record IsWithinLimits (m : Core) : Type 0 where
+  pub history : HistoryFits m.sizes m.timeline.base m.timeline.history
+  pub log : LogFits m.sizes m.log
+  pub manifest : ManifestFits m.sizes m.manifest
+  pub slots : m.used_slots ≤ m.sizes.slots
+  -- what is safe is between the base and the last number
+  pub since_base : m.timeline.base.number ≤ m.safe
+  pub until_now : m.safe ≤ number_of m
+  pub jobs : length m.jobs ≤ most_jobs
+  pub cursors : m.cursors ≤ most_cursors
+  pub turn : TurnFits m.sizes m.safe (number_of m) m.turn
