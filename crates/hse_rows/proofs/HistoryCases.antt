@@ -1,6 +1,5 @@
 -- Small cases of histories, and of what the log and the manifest have of them, worked by hand.
-use Rattle.std.proofs.Common.{◌≡◌, ℕ, ◌≤◌, List, [], ◌∷◌, length, map, Option, Some, None, refl, ap, arith}
-use Rattle.std.proofs.Math.Bool.{true≢false}
+use Rattle.std.proofs.Common.{◌≡◌, ℕ, ◌≤◌, List, [], ◌∷◌, map, Option, Some, None, refl, arith}
 use Rattle.std.specs.Prelude.{codes}
 use Rattle.std.specs.FinMap as fin_map
 use Rattle.hse_rows.specs.declared.store.Mode.TheVariants.{Plain, Tx}
@@ -8,18 +7,13 @@ use Rattle.hse_rows.specs.declared.change.Change.{Change}
 use Rattle.hse_rows.specs.declared.change.Change.TheVariants.{Put}
 use Rattle.hse_rows.specs.declared.write.Write.{Write}
 use Rattle.hse_rows.specs.Change.{write_of}
-use Rattle.hse_rows.specs.NormalForm.{normal_form}
 use Rattle.hse_rows.specs.State.{State, store_named}
 use Rattle.hse_rows.specs.Holding.{get-contents_after_all}
 use Rattle.hse_rows.specs.History.{Event, commits, creates, drops, new_store, happened, folded, fold, events_since, last_number}
 use Rattle.hse_rows.specs.Rooted.{writes_of, bare, AreRooted}
 use Rattle.hse_rows.specs.Log.{LogState, Frozen, Numbered, new_log, logged, charge_of_active, room_left, IsWithinLayers}
-use Rattle.hse_rows.specs.Lines.{drop_store}
-use Rattle.hse_rows.specs.Machine.{for_store}
-use Rattle.hse_rows.specs.Recorded.{commits_in, taken_in, IsRecorded}
-use Rattle.hse_rows.specs.Step.{loads, done, failing}
-use Rattle.hse_rows.specs.Laws.{IsRooted, LoadsRooted}
-use Rattle.hse_rows.proofs.MachineCases.{fresh, one_store, a_put}
+use Rattle.hse_rows.specs.Recorded.{commits_in, taken_in}
+use Rattle.hse_rows.specs.Timeline.{for_some}
 
 abbrev of : ℕ → Change → Write
 of id change = write_of (record { 0 = id }) change
@@ -45,7 +39,7 @@ four = creation ∷ commits (first_put ∷ []) ∷ commits (second_put ∷ third
 
 -- what a key of the store of this name holds
 abbrev held : State → List ℕ → List ℕ → Option (List ℕ)
-held state name key = for_store (store_named state name) None (λ store. fin_map.get store.contents key)
+held state name key = for_some (store_named state name) None (λ store. fin_map.get store.contents key)
 
 -- ---- states of numbers
 
@@ -137,18 +131,6 @@ a_write_before_its_store_is_refused rooted =
     let before : 1 ≤ 0 = rooted.0.0 in
     absurd (omega (arith, before))
 
-a_machine_s_commits_are_of_its_stores : IsRooted (done one_store a_put)
-unfolding normal_form
-a_machine_s_commits_are_of_its_stores =
-    let before : 1 ≤ 1 = omega arith in
-    (tt, ((before, tt), tt))
-
-what_is_loaded_has_no_commit_of_a_later_store :
-    ¬ LoadsRooted (loads (record fresh { history = commits (first_put ∷ []) ∷ [] }))
-what_is_loaded_has_no_commit_of_a_later_store rooted =
-    let before : 1 ≤ 0 = rooted.0.0 in
-    absurd (omega (arith, before))
-
 -- ---- the log
 
 abbrev second : Numbered
@@ -204,16 +186,3 @@ the_manifest_has_the_other_numbers = refl
 
 from_another_base_on : taken_in 8 two ≡ 8 ∷ 9 ∷ []
 from_another_base_on = refl
-
-a_put_and_a_creation_are_recorded : IsRecorded [] [] (done one_store a_put)
-unfolding normal_form
-a_put_and_a_creation_are_recorded = record { log = refl; manifest = λ whole. refl }
-
-a_failed_drop_is_not_in_the_manifest : IsRecorded [] [] (failing one_store (drop_store (codes "s")))
-a_failed_drop_is_not_in_the_manifest = record { log = refl; manifest = λ whole. absurd (true≢false whole) }
-
-a_commit_that_the_log_lacks_is_not_recorded :
-    ¬ IsRecorded [] [] (record fresh { history = commits (first_put ∷ []) ∷ [] })
-a_commit_that_the_log_lacks_is_not_recorded recorded =
-    let none : 0 ≡ 1 = ap (λ (commits : List Numbered). length commits) recorded.log in
-    absurd (omega (arith, none))

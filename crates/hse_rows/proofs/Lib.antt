@@ -5,6 +5,7 @@ pub mod EffectLemmas
 pub mod StateLemmas
 pub mod OverlapLemmas
 pub mod WriteLemmas
+pub mod CaseLines
 pub mod WriteCases
 pub mod LimitCases
 pub mod SizeCases
@@ -19,13 +20,9 @@ pub mod CursorCases
 pub mod LayoutCases
 pub mod RunCases
 pub mod PackingCases
-pub mod StepLemmas
 pub mod StatesLemmas
-pub mod StepStates
 pub mod ChargeLemmas
-pub mod LimitLemmas
 pub mod RootedLemmas
-pub mod StepRoots
 pub mod RecordLemmas
 pub mod PlaceLemmas
 pub mod ApartLemmas
@@ -40,3 +37,4 @@ pub mod RowCases
 pub mod CoreAnswers
 mod MeaningCases
 pub mod CoreLimits
+pub mod CoreRecords

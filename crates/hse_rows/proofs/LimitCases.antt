@@ -12,7 +12,7 @@ use Rattle.hse_rows.specs.Lengths.{IsKeyLength, IsEdgeLength, IsPrefixLength, Fi
 use Rattle.hse_rows.specs.Names.{is_name_byte, IsName}
 use Rattle.hse_rows.specs.Refusals.{RefusesKey, RefusesEdge, RefusesValue, RefusesPrefix, RefusesName}
 use Rattle.hse_rows.specs.Change.{FitsLimits}
-use Rattle.hse_rows.specs.Machine.{longest_value}
+use Rattle.hse_rows.specs.Core.{longest_value}
 use Rattle.hse_rows.proofs.MachineCases.{small}
 
 -- ---- lengths

@@ -7,20 +7,23 @@ use Rattle.hse_rows.specs.NormalForm.{normal_form}
 use Rattle.hse_rows.specs.Charge.{charge_of}
 use Rattle.hse_rows.specs.Sizes.{Sizes}
 use Rattle.hse_rows.specs.ManifestRoom.{gained}
-use Rattle.hse_rows.specs.Lines.{outside, Line, create_store, drop_store, list_stores, put, get, sync, info, bad}
-use Rattle.hse_rows.specs.Answers.{bad_line, store_exists, no_store, store_mode, key_length, value_length, prefix_length, broken, log_full, txn_size, ok, listed, figures}
-use Rattle.hse_rows.specs.Machine.{MachineState, formatted, number_of, whole_room, left_room, longest_key, longest_value}
-use Rattle.hse_rows.specs.FirstRefusal.{refusal, refuse, key_refusal, value_refusal, log_refusal}
-use Rattle.hse_rows.specs.Step.{reply, done, failing}
+use Rattle.hse_rows.specs.Replies.{bad_line, store_exists, no_store, store_mode, key_length, value_length, prefix_length, broken, log_full, txn_size, ok, listed, figures}
+use Rattle.hse_rows.specs.Core.{Core, whole_room, left_room, longest_key, longest_value}
+use Rattle.hse_rows.specs.CoreRefusal.{refuse, key_refusal, value_refusal, size_refusal, room_refusal}
+use Rattle.hse_rows.specs.ScriptLines.{Line, list_stores, get, info, bad}
+use Rattle.hse_rows.specs.Script.{Script}
+use Rattle.hse_rows.specs.ScriptRefusal.{refusal}
+use Rattle.hse_rows.specs.ScriptDone.{reply, done, failing}
+use Rattle.hse_rows.proofs.CaseLines.{outside, create_store, drop_store, put, formatted, failed, number_of}
 
 -- 64 slots of 65,536 bytes, halves of 65,536 and segments of 262,144
 abbrev pub small : Sizes
 small = record { slot_size = 65536; slots = 64; half_size = 65536; segment_size = 262144; most_stores = 256 }
 
-abbrev pub fresh : MachineState
+abbrev pub fresh : Script
 fresh = formatted small
 
-abbrev pub one_store : MachineState
+abbrev pub one_store : Script
 one_store = done fresh (create_store (codes "s") Plain 0)
 
 abbrev pub a_put : Line
@@ -77,10 +80,10 @@ a_transaction_s_store_takes_no_write_outside :
     ≡ Some store_mode
 a_transaction_s_store_takes_no_write_outside = refl
 
-a_broken_engine_refuses_writes : refusal (failing one_store sync) a_put ≡ Some broken
+a_broken_engine_refuses_writes : refusal (failed one_store) a_put ≡ Some broken
 a_broken_engine_refuses_writes = refl
 
-a_broken_engine_reads : refusal (failing one_store sync) (get outside (codes "s") (codes "a")) ≡ None
+a_broken_engine_reads : refusal (failed one_store) (get outside (codes "s") (codes "a")) ≡ None
 a_broken_engine_reads = refl
 
 a_failed_creation_has_happened : number_of (failing fresh (create_store (codes "s") Plain 0)) ≡ 1
@@ -97,13 +100,13 @@ a_value_of_60000_bytes_takes_60060 value long = ap (λ (n : ℕ). 12 + (0 + (15 
 
 -- ---- the manifest
 
-a_new_half_has_40_bytes_used : fresh.manifest.used ≡ 40
+a_new_half_has_40_bytes_used : fresh.core.manifest.used ≡ 40
 a_new_half_has_40_bytes_used = refl
 
-a_creation_takes_18_bytes : one_store.manifest.used ≡ 58
+a_creation_takes_18_bytes : one_store.core.manifest.used ≡ 58
 a_creation_takes_18_bytes = refl
 
-a_drop_takes_22_bytes : (done one_store (drop_store (codes "s"))).manifest.used ≡ 80
+a_drop_takes_22_bytes : (done one_store (drop_store (codes "s"))).core.manifest.used ≡ 80
 a_drop_takes_22_bytes = refl
 
 -- with 16 bytes left a creation starts the other half
@@ -133,12 +136,10 @@ a_key_of_1345_bytes_is_refused key long =
     ap (λ (n : ℕ). refuse ((n == 0) || nat_lt longest_key n) (key_length n) None) long
 
 -- where 240,240 bytes of a segment of 262,144 are taken
-a_fifth_commit_of_60060_has_no_room : (m : MachineState) → whole_room m ≡ 262080 → left_room m ≡ 21840
-    → log_refusal m 60060 ≡ Some (log_full 60060 21840)
-a_fifth_commit_of_60060_has_no_room m whole left i =
-    refuse (nat_lt (whole i) 60060) (txn_size 60060 (whole i)) (refuse (nat_lt (left i) 60060) (log_full 60060 (left i)) None)
+a_fifth_commit_of_60060_has_no_room : (m : Core) → left_room m ≡ 21840 → room_refusal m 60060 ≡ Some (log_full 60060 21840)
+a_fifth_commit_of_60060_has_no_room m left = ap (λ (n : ℕ). refuse (nat_lt n 60060) (log_full 60060 n) None) left
 
-a_commit_larger_than_a_segment_is_refused : (m : MachineState) → whole_room m ≡ 262080
-    → log_refusal m 300124 ≡ Some (txn_size 300124 262080)
+a_commit_larger_than_a_segment_is_refused : (m : Core) → whole_room m ≡ 262080
+    → size_refusal m 300124 None ≡ Some (txn_size 300124 262080)
 a_commit_larger_than_a_segment_is_refused m whole =
-    ap (λ (n : ℕ). refuse (nat_lt n 300124) (txn_size 300124 n) (refuse (nat_lt (left_room m) 300124) (log_full 300124 (left_room m)) None)) whole
+    ap (λ (n : ℕ). refuse (nat_lt n 300124) (txn_size 300124 n) None) whole

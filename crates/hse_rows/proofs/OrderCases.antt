@@ -9,10 +9,12 @@ use Rattle.hse_rows.specs.NormalForm.{normal_form}
 use Rattle.hse_rows.specs.History.{new_store}
 use Rattle.hse_rows.specs.Log.{LogState, new_log, logged}
 use Rattle.hse_rows.specs.ManifestRoom.{ManifestState}
-use Rattle.hse_rows.specs.Lines.{outside, create_store, drop_store, put, del, get}
-use Rattle.hse_rows.specs.Answers.{store_exists, no_store, store_mode, key_length, value_length, prefix_length, broken, too_many, spent, manifest_full, txn_size, log_full}
-use Rattle.hse_rows.specs.Machine.{MachineState, loaded, new_manifest}
-use Rattle.hse_rows.specs.FirstRefusal.{refusal}
+use Rattle.hse_rows.specs.Replies.{store_exists, no_store, store_mode, key_length, value_length, prefix_length, broken, too_many, spent, manifest_full, txn_size, log_full}
+use Rattle.hse_rows.specs.Core.{life, new_manifest}
+use Rattle.hse_rows.specs.ScriptLines.{get}
+use Rattle.hse_rows.specs.Script.{Script, begins_with}
+use Rattle.hse_rows.specs.ScriptRefusal.{refusal}
+use Rattle.hse_rows.proofs.CaseLines.{outside, create_store, drop_store, put, del, without_sets}
 use Rattle.hse_rows.proofs.MachineCases.{small}
 use Rattle.hse_rows.proofs.RoomCases.{with_stores}
 
@@ -21,9 +23,11 @@ use Rattle.hse_rows.proofs.RoomCases.{with_stores}
 full_half : ManifestState
 full_half = record { sequence = 4611686018427387904; used = 65536; taken = [] }
 
-abbrev creating : ℕ → ℕ → ManifestState → Bool → MachineState
+abbrev creating : ℕ → ℕ → ManifestState → Bool → Script
 creating count number manifest is_broken =
-    record (with_stores count number) { manifest = manifest; is_broken = is_broken }
+    record (with_stores count number) {
+      core = record (with_stores count number).core { manifest = manifest; is_broken = is_broken };
+    }
 
 creation_tells_store_exists :
     refusal (creating 256 4611686018427387904 full_half true) (create_store (codes "aa") Plain 33)
@@ -74,12 +78,12 @@ creation_is_taken = refl
 abbrev one_commit : LogState
 one_commit = logged new_log 2 (write_of (record { 0 = 1 }) (Put (codes "k") (codes "v")) ∷ [])
 
-abbrev writing : Mode → ℕ → ℕ → Bool → MachineState
-writing mode number room is_broken =
-    record (loaded (record small { slot_size = 66; segment_size = 64 + room })
-    (record { number = number; stores = new_store 1 (codes "s") mode 0 ∷ [] }) one_commit full_half 0) {
+abbrev writing : Mode → ℕ → ℕ → Bool → Script
+writing mode number room is_broken = begins_with (record
+    (life (without_sets (record small { slot_size = 66; segment_size = 64 + room })
+    (record { number = number; stores = new_store 1 (codes "s") mode 0 ∷ [] }) one_commit full_half)) {
       is_broken = is_broken;
-    }
+    })
 
 drop_tells_no_store : refusal (writing Tx 4611686018427387904 60 true) (drop_store (codes "t")) ≡ Some no_store
 drop_tells_no_store = refl

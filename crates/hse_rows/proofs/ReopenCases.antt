@@ -1,5 +1,5 @@
 -- Small cases of device faults and reopenings, worked by hand.
-use Rattle.std.proofs.Common.{◌≡◌, ℕ, ◌<◌, [], ◌∷◌, map, Some, None, refl, ap, arith}
+use Rattle.std.proofs.Common.{◌≡◌, ℕ, List, [], ◌∷◌, map, Option, Some, None, refl, sym, ap, arith}
 use Rattle.std.proofs.Math.Bool.{true≢false}
 use Rattle.std.specs.Prelude.{codes}
 use Rattle.std.specs.Ordering.{nat_cmp}
@@ -14,20 +14,26 @@ use Rattle.hse_rows.specs.NormalForm.{normal_form}
 use Rattle.hse_rows.specs.Holding.{get-contents_after_all}
 use Rattle.hse_rows.specs.History.{new_store}
 use Rattle.hse_rows.specs.Log.{new_log}
-use Rattle.hse_rows.specs.Lines.{outside, Line, create_store, drop_store, list_stores, put, del, get, sync, info, reopen, silent}
-use Rattle.hse_rows.specs.Answers.{superblock, manifest_half, store_exists, no_store, key_length, prefix_length, broken, not_formed, other_version, ok, value, none, listed, refused, no_memory, device_fault}
-use Rattle.hse_rows.specs.Machine.{MachineState, loaded, number_of, failed}
-use Rattle.hse_rows.specs.FirstRefusal.{refusal}
-use Rattle.hse_rows.specs.Step.{Found, loads, breaks_off, has_version, Writes, Step, reply, done, failing, answer_of, led_to, found_value}
+use Rattle.hse_rows.specs.Replies.{superblock, manifest_half, store_exists, no_store, key_length, prefix_length, broken, not_formed, other_version, ok, value, none, listed, refused, no_memory, device_fault}
+use Rattle.hse_rows.specs.Core.{Stored}
+use Rattle.hse_rows.specs.CoreReply.{found_value}
+use Rattle.hse_rows.specs.CoreStep.{Found, loads, breaks_off, has_version}
+use Rattle.hse_rows.specs.ScriptLines.{Line, list_stores, get, info, reopen, silent}
+use Rattle.hse_rows.specs.Script.{Script}
+use Rattle.hse_rows.specs.ScriptNames.{answer_named}
+use Rattle.hse_rows.specs.ScriptRefusal.{refusal}
+use Rattle.hse_rows.specs.ScriptDone.{reply, done, failing}
+use Rattle.hse_rows.specs.ScriptStep.{MayFail, Step, answer_of, led_to}
+use Rattle.hse_rows.proofs.CaseLines.{outside, create_store, drop_store, sync, put, del, without_sets, failed, number_of}
 use Rattle.hse_rows.proofs.MachineCases.{small, fresh, one_store, a_put}
 
 -- ---- a sync that fails
 
 -- a creation, and a put that no sync wrote
-abbrev waiting : MachineState
+abbrev waiting : Script
 waiting = done one_store a_put
 
-abbrev after_fault : MachineState
+abbrev after_fault : Script
 after_fault = failing waiting sync
 
 abbrev the_write : Write
@@ -36,36 +42,34 @@ the_write = write_of (record { 0 = 1 }) (Put (codes "a") (codes "1"))
 abbrev a_get : Line
 a_get = get outside (codes "s") (codes "a")
 
-a_sync_writes_what_waits : Writes waiting sync
+a_sync_writes_what_waits : MayFail waiting sync
 unfolding normal_form
-a_sync_writes_what_waits = omega arith
+a_sync_writes_what_waits = refl
 
-a_sync_of_nothing_writes_nothing : ¬ Writes one_store sync
-a_sync_of_nothing_writes_nothing writes = absurd (omega (arith, writes))
+a_sync_of_nothing_writes_nothing : ¬ MayFail one_store sync
+a_sync_of_nothing_writes_nothing calls = absurd (true≢false (sym calls))
 
-a_creation_writes : Writes fresh (create_store (codes "s") Plain 0)
-a_creation_writes = tt
+a_creation_writes : MayFail fresh (create_store (codes "s") Plain 0)
+a_creation_writes = refl
 
-a_put_writes_nothing : ¬ Writes one_store a_put
+a_put_writes_nothing : ¬ MayFail one_store a_put
 a_put_writes_nothing writes = writes
 
 a_sync_may_fail : (found : Found) → Step found waiting sync device_fault after_fault
 unfolding normal_form
-a_sync_may_fail found =
-    let writes : waiting.safe < number_of waiting = omega arith in
-    (writes, refl, refl)
+a_sync_may_fail found = (refl, refl, refl)
 
-a_failed_sync_makes_nothing_safe : after_fault.safe ≡ 1
+a_failed_sync_makes_nothing_safe : after_fault.core.safe ≡ 1
 a_failed_sync_makes_nothing_safe = refl
 
-a_sync_makes_all_safe : (done waiting sync).safe ≡ 2
+a_sync_makes_all_safe : (done waiting sync).core.safe ≡ 2
 unfolding normal_form
 a_sync_makes_all_safe = refl
 
 a_failed_sync_loses_no_commit : reply after_fault a_get ≡ value (codes "1")
 unfolding normal_form
 a_failed_sync_loses_no_commit =
-    ap found_value
+    ap (λ (held : Option (List ℕ)). answer_named after_fault (found_value held))
     (get-contents_after_all 1 fin_map.empty (the_write ∷ []) (codes "a"))
 
 -- ---- what a broken engine refuses
@@ -94,7 +98,7 @@ what_the_line_says_is_refused_first = refl
 
 -- ---- a creation or a drop that fails has happened; manifest and safe number stay
 
-abbrev after_failed_drop : MachineState
+abbrev after_failed_drop : Script
 after_failed_drop = failing one_store (drop_store (codes "s"))
 
 a_failed_drop_is_an_event : number_of after_failed_drop ≡ 2
@@ -103,10 +107,10 @@ a_failed_drop_is_an_event = refl
 a_failed_drop_leaves_no_store : reply after_failed_drop list_stores ≡ listed []
 a_failed_drop_leaves_no_store = refl
 
-a_failed_drop_makes_nothing_safe : after_failed_drop.safe ≡ 1
+a_failed_drop_makes_nothing_safe : after_failed_drop.core.safe ≡ 1
 a_failed_drop_makes_nothing_safe = refl
 
-a_failed_drop_is_not_in_the_manifest : after_failed_drop.manifest ≡ record { sequence = 1; used = 58; taken = 1 ∷ [] }
+a_failed_drop_is_not_in_the_manifest : after_failed_drop.core.manifest ≡ record { sequence = 1; used = 58; taken = 1 ∷ [] }
 a_failed_drop_is_not_in_the_manifest = refl
 
 a_failed_drop_breaks :
@@ -120,48 +124,48 @@ a_failed_creation_has_its_store :
 unfolding normal_form
 a_failed_creation_has_its_store = refl
 
-a_failed_creation_makes_nothing_safe : (failing fresh (create_store (codes "s") Plain 0)).safe ≡ 0
+a_failed_creation_makes_nothing_safe : (failing fresh (create_store (codes "s") Plain 0)).core.safe ≡ 0
 a_failed_creation_makes_nothing_safe = refl
 
 a_failed_creation_is_not_in_the_manifest :
-    (failing fresh (create_store (codes "s") Plain 0)).manifest
+    (failing fresh (create_store (codes "s") Plain 0)).core.manifest
     ≡ record { sequence = 1; used = 40; taken = [] }
 a_failed_creation_is_not_in_the_manifest = refl
 
 -- ---- a reopening that finds a state
 
 -- the device has the creation alone
-abbrev stored : MachineState
+abbrev stored : Stored
 stored =
-    loaded small (record { number = 1; stores = new_store 1 (codes "s") Plain 0 ∷ [] }) new_log
-    (record { sequence = 1; used = 58; taken = 1 ∷ [] }) 0
+    without_sets small (record { number = 1; stores = new_store 1 (codes "s") Plain 0 ∷ [] }) new_log
+    (record { sequence = 1; used = 58; taken = 1 ∷ [] })
 
-abbrev reopened : MachineState
+abbrev reopened : Script
 reopened = led_to (loads stored) after_fault reopen (ok 1)
 
 a_reopening_answers_the_number_that_it_finds : answer_of (loads stored) after_fault reopen ≡ ok 1
 a_reopening_answers_the_number_that_it_finds = refl
 
 a_reopening_is_a_step : Step (loads stored) after_fault reopen (ok 1) reopened
-a_reopening_is_a_step = (refl, refl)
+a_reopening_is_a_step = (refl, (refl, refl))
 
 a_reopening_answers_no_other_number : ¬ Step (loads stored) after_fault reopen (ok 2) reopened
 a_reopening_answers_no_other_number step =
-    let two : 2 ≡ 1 = step.0 in
+    let two : 2 ≡ 1 = step.1.0 in
     absurd (omega (arith, two))
 
 a_reopening_of_a_state_is_not_refused :
     ¬ Step (loads stored) after_fault reopen (refused (not_formed superblock 0)) after_fault
-a_reopening_of_a_state_is_not_refused step = step
+a_reopening_of_a_state_is_not_refused step = step.1
 
-a_reopening_begins_a_history : reopened.history ≡ []
+a_reopening_begins_a_history : reopened.core.timeline.history ≡ []
 a_reopening_begins_a_history = refl
 
-what_a_reopening_finds_is_safe : reopened.safe ≡ 1
+what_a_reopening_finds_is_safe : reopened.core.safe ≡ 1
 what_a_reopening_finds_is_safe = refl
 
 what_was_not_synced_is_lost : reply reopened a_get ≡ none
-what_was_not_synced_is_lost = ap found_value (get-empty (slice_cmp nat_cmp) (codes "a"))
+what_was_not_synced_is_lost = ap (λ (held : Option (List ℕ)). answer_named reopened (found_value held)) (get-empty (slice_cmp nat_cmp) (codes "a"))
 
 a_reopened_engine_takes_writes : refusal reopened a_put ≡ None
 unfolding normal_form
@@ -185,12 +189,12 @@ all_stays_as_it_was = refl
 the_place_is_the_first :
     ¬ Step (breaks_off (manifest_half 1) 10) one_store reopen (refused (not_formed (manifest_half 1) 11)) one_store
 the_place_is_the_first step =
-    let other : 11 ≡ 10 = step.1 in
+    let other : 11 ≡ 10 = step.1.1 in
     absurd (omega (arith, other))
 
 a_refused_reopening_does_not_break :
     ¬ Step (breaks_off superblock 0) one_store reopen (refused (not_formed superblock 0)) (failed one_store)
-a_refused_reopening_does_not_break step = absurd (true≢false (ap (λ (m : MachineState). m.is_broken) step.2))
+a_refused_reopening_does_not_break step = absurd (true≢false (ap (λ (s : Script). s.core.is_broken) step.1.2))
 
 writes_go_on :
     refusal (led_to (breaks_off superblock 0) one_store reopen (refused (not_formed superblock 0))) a_put
@@ -202,17 +206,17 @@ another_version_is_answered : answer_of (has_version 2) one_store reopen ≡ ref
 another_version_is_answered = refl
 
 another_version_is_a_step : Step (has_version 2) one_store reopen (refused (other_version 2)) one_store
-another_version_is_a_step = (refl, refl)
+another_version_is_a_step = (refl, (refl, refl))
 
 another_version_loads_nothing : (number : ℕ) → ¬ Step (has_version 2) one_store reopen (ok number) one_store
-another_version_loads_nothing number step = step
+another_version_loads_nothing number step = step.1
 
 -- ---- a reopening that meets a device fault
 
 a_reopening_may_fail : (found : Found) → Step found one_store reopen device_fault (failed one_store)
-a_reopening_may_fail (loads m) = refl
-a_reopening_may_fail (breaks_off part place) = refl
-a_reopening_may_fail (has_version version) = refl
+a_reopening_may_fail (loads m) = (refl, refl)
+a_reopening_may_fail (breaks_off part place) = (refl, refl)
+a_reopening_may_fail (has_version version) = (refl, refl)
 
 a_failed_reopening_breaks : refusal (led_to (loads stored) one_store reopen device_fault) a_put ≡ Some broken
 unfolding normal_form

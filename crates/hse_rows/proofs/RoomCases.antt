@@ -9,12 +9,17 @@ use Rattle.hse_rows.specs.History.{new_store}
 use Rattle.hse_rows.specs.Log.{new_log}
 use Rattle.hse_rows.specs.TakenRuns.{runs_of}
 use Rattle.hse_rows.specs.ManifestRoom.{batch_bytes, base_bytes}
-use Rattle.hse_rows.specs.Lines.{outside, Line, create_store, drop_store, del, get, sync, info}
-use Rattle.hse_rows.specs.Answers.{store_exists, broken, too_many, spent, manifest_full, txn_size, log_full, ok, figures}
-use Rattle.hse_rows.specs.Machine.{MachineState, IsWithinLimits, formatted, loaded, failed, new_manifest}
-use Rattle.hse_rows.specs.FirstRefusal.{refusal}
-use Rattle.hse_rows.specs.Step.{loads, reply, done}
-use Rattle.hse_rows.specs.Laws.{LoadsWithinLimits}
+use Rattle.hse_rows.specs.Replies.{store_exists, broken, too_many, spent, manifest_full, txn_size, log_full, ok, figures}
+use Rattle.hse_rows.specs.Core.{life, new_manifest}
+use Rattle.hse_rows.specs.Core as core
+use Rattle.hse_rows.specs.Limits.{IsWithinLimits}
+use Rattle.hse_rows.specs.CoreStep.{loads}
+use Rattle.hse_rows.specs.CoreLaws.{LoadsWithinLimits}
+use Rattle.hse_rows.specs.ScriptLines.{Line, get, info}
+use Rattle.hse_rows.specs.Script.{Script, begins_with}
+use Rattle.hse_rows.specs.ScriptRefusal.{refusal}
+use Rattle.hse_rows.specs.ScriptDone.{reply, done}
+use Rattle.hse_rows.proofs.CaseLines.{outside, create_store, drop_store, sync, del, formatted, without_sets, loaded, failed, with_manifest, with_sizes}
 use Rattle.hse_rows.proofs.MachineCases.{small, fresh, a_put}
 
 abbrev creation : Line
@@ -27,10 +32,10 @@ abbrev lettered : ℕ → Store
 lettered id = new_store id ((97 + (id - 1) / 26) ∷ (97 + (id - 1) % 26) ∷ []) Plain 0
 
 -- as many creations, by this number
-unfoldable pub with_stores : ℕ → ℕ → MachineState
+unfoldable pub with_stores : ℕ → ℕ → Script
 with_stores count number =
     loaded small (record { number = number; stores = map lettered (range_with_len 1 count) }) new_log
-    (record { sequence = 1; used = 40 + 25 * count; taken = range_with_len 1 count }) 0
+    (record { sequence = 1; used = 40 + 25 * count; taken = range_with_len 1 count })
 
 a_store_above_256_is_refused : refusal (with_stores 256 256) creation ≡ Some (too_many 256)
 unfolding with_stores
@@ -58,7 +63,7 @@ the_count_is_refused_before_the_number = refl
 
 -- the limit is the device's
 a_device_of_one_store_takes_one :
-    map (λ stores. refusal (record stores { sizes = record small { most_stores = 1 } }) creation) (with_stores 0 0 ∷ with_stores 1 1 ∷ [])
+    map (λ stores. refusal (with_sizes stores (record small { most_stores = 1 })) creation) (with_stores 0 0 ∷ with_stores 1 1 ∷ [])
     ≡ None ∷ Some (too_many 1) ∷ []
 unfolding with_stores
 a_device_of_one_store_takes_one = refl
@@ -66,9 +71,9 @@ a_device_of_one_store_takes_one = refl
 -- ---- numbers
 
 -- a store s, at this number
-abbrev at_number : ℕ → MachineState
+abbrev at_number : ℕ → Script
 at_number number =
-    loaded small (record { number = number; stores = new_store 1 (codes "s") Plain 0 ∷ [] }) new_log new_manifest 0
+    loaded small (record { number = number; stores = new_store 1 (codes "s") Plain 0 ∷ [] }) new_log new_manifest
 
 no_event_follows_the_last_number :
     map (refusal (at_number 4611686018427387904)) (creation ∷ drop_store (codes "s") ∷ a_put
@@ -108,61 +113,58 @@ no_half_has_room_for_8184_runs : (taken : List ℕ) → length (runs_of taken) �
 no_half_has_room_for_8184_runs taken many i = 5 + (25 + 8 * many i + 32 + 0)
 
 -- The same from the first round on, in halves of 100 bytes.
-abbrev round : MachineState → MachineState
+abbrev round : Script → Script
 round m = done (done m (create_store (codes "s") Plain 0)) (drop_store (codes "s"))
 
-abbrev tiny : MachineState
+abbrev tiny : Script
 tiny = formatted (record small { half_size = 100 })
 
-a_round_takes_40_bytes : (round tiny).manifest ≡ record { sequence = 1; used = 80; taken = 1 ∷ 2 ∷ [] }
+a_round_takes_40_bytes : (round tiny).core.manifest ≡ record { sequence = 1; used = 80; taken = 1 ∷ 2 ∷ [] }
 a_round_takes_40_bytes = refl
 
 the_second_round_starts_a_half :
-    (round (round tiny)).manifest
+    (round (round tiny)).core.manifest
     ≡ record { sequence = 2; used = 48; taken = 1 ∷ 2 ∷ 3 ∷ 4 ∷ [] }
 the_second_round_starts_a_half = refl
 
 the_third_has_room_in_it :
-    (round (round (round tiny))).manifest
+    (round (round (round tiny))).core.manifest
     ≡ record { sequence = 2; used = 88; taken = 1 ∷ 2 ∷ 3 ∷ 4 ∷ 5 ∷ 6 ∷ [] }
 the_third_has_room_in_it = refl
 
 the_fourth_starts_another :
-    (round (round (round (round tiny)))).manifest
+    (round (round (round (round tiny)))).core.manifest
     ≡ record { sequence = 3; used = 86; taken = 1 ∷ 2 ∷ 3 ∷ 4 ∷ 5 ∷ 6 ∷ 7 ∷ 8 ∷ [] }
 the_fourth_starts_another = refl
 
 -- with puts between them the numbers are three runs, and a half of 70 bytes has no room for four
 a_fourth_run_is_refused :
     refusal
-    (record fresh {
-      sizes = record small { half_size = 70 };
-      manifest = record { sequence = 1; used = 70; taken = 1 ∷ 3 ∷ 5 ∷ [] };
-      base = record { number = 6; stores = [] };
-    })
+    (loaded (record small { half_size = 70 }) (record { number = 6; stores = [] }) new_log
+    (record { sequence = 1; used = 70; taken = 1 ∷ 3 ∷ 5 ∷ [] }))
     (create_store (codes "s") Plain 0)
     ≡ Some (manifest_full 78 60)
 a_fourth_run_is_refused = refl
 
 -- a half that has this much used
-abbrev with_half : ℕ → ℕ → MachineState
-with_half sequence used = record fresh { manifest = record { sequence = sequence; used = used; taken = [] } }
+abbrev with_half : ℕ → ℕ → Script
+with_half sequence used = with_manifest fresh (record { sequence = sequence; used = used; taken = [] })
 
 an_entry_may_fill_its_half :
-    (done (with_half 1 65518) creation).manifest
+    (done (with_half 1 65518) creation).core.manifest
     ≡ record { sequence = 1; used = 65536; taken = 1 ∷ [] }
 an_entry_may_fill_its_half = refl
 
 one_byte_less_starts_the_other_half :
-    (done (with_half 1 65519) creation).manifest
+    (done (with_half 1 65519) creation).core.manifest
     ≡ record { sequence = 2; used = 64; taken = 1 ∷ [] }
 one_byte_less_starts_the_other_half = refl
 
 -- a full half of this size, after which a new one takes 54 bytes behind its head of 10
-abbrev with_full : ℕ → MachineState
-with_full size = record (with_half 1 size) { sizes = record small { half_size = size } }
+abbrev with_full : ℕ → Script
+with_full size = with_sizes (with_half 1 size) (record small { half_size = size })
 
-a_whole_state_may_fill_a_half : (done (with_full 64) creation).manifest
+a_whole_state_may_fill_a_half : (done (with_full 64) creation).core.manifest
     ≡ record { sequence = 2; used = 64; taken = 1 ∷ [] }
 a_whole_state_may_fill_a_half = refl
 
@@ -183,7 +185,7 @@ the_last_half_takes_what_fits = refl
 -- ---- the log: a put of a byte is charged 61
 
 -- a store s in a device of segments that have this much room
-abbrev with_room : ℕ → MachineState
+abbrev with_room : ℕ → Script
 with_room room = done (formatted (record small { segment_size = 64 + room })) (create_store (codes "s") Plain 0)
 
 a_segment_may_be_full : refusal (done (with_room 122) a_put) a_put ≡ None
@@ -208,10 +210,16 @@ a_deletion_takes_56 = refl
 
 -- ---- figures, where a layer is frozen and two slots are used
 
-abbrev with_sets : MachineState
-with_sets =
-    loaded small (record { number = 2; stores = new_store 1 (codes "s") Plain 0 ∷ [] })
-    (record new_log { frozen = record { last = 2; commits = [] } ∷ [] }) new_manifest 2
+abbrev with_sets : Script
+with_sets = begins_with (life (record
+    (without_sets small (record { number = 2; stores = new_store 1 (codes "s") Plain 0 ∷ [] })
+    (record new_log { frozen = record { last = 2; commits = [] } ∷ [] }) new_manifest) {
+      layout = record {
+        store = 1;
+        path = [];
+        sets = record { rows = []; prefix_blocks = 0; key_blocks = 1; value_blocks = 1 } ∷ [];
+      } ∷ [];
+    }))
 
 figures_tell_layers_charge_and_slots :
     reply (done with_sets a_put) info
@@ -221,22 +229,33 @@ figures_tell_layers_charge_and_slots = refl
 
 -- ---- the limits together
 
-a_new_device_is_within_them : IsWithinLimits fresh
+a_new_device_is_within_them : IsWithinLimits (life (core.formatted small))
 a_new_device_is_within_them = record {
-  room = omega arith;
-  numbers = omega arith;
-  stores = omega arith;
-  half = omega arith;
-  sequences = omega arith;
+  history = record { numbers = omega arith; stores = omega arith };
+  log = record { room = omega arith; layers = omega arith; segments = omega arith };
+  manifest = record { used = omega arith; sequence = omega arith };
+  slots = omega arith;
+  since_base = omega arith;
+  until_now = omega arith;
+  jobs = omega arith;
+  cursors = omega arith;
+  turn = tt;
 }
 
-a_half_that_is_overfull_is_not : ¬ IsWithinLimits (with_half 1 65537)
+a_half_that_is_overfull_is_not : ¬ IsWithinLimits (with_half 1 65537).core
 a_half_that_is_overfull_is_not within =
-    let half : 65537 ≤ 65536 = within.half in
+    let half : 65537 ≤ 65536 = within.manifest.used in
     absurd (omega (arith, half))
 
-it_may_be_loaded : LoadsWithinLimits (loads fresh)
-it_may_be_loaded = a_new_device_is_within_them
+more_slots_than_there_are_are_not : ¬ IsWithinLimits (record fresh.core { used_slots = 65 })
+more_slots_than_there_are_are_not within =
+    let used : 65 ≤ 64 = within.slots in
+    absurd (omega (arith, used))
 
-such_a_half_may_not : ¬ LoadsWithinLimits (loads (with_half 1 65537))
-such_a_half_may_not = a_half_that_is_overfull_is_not
+what_is_safe_is_not_above_the_last_number : ¬ IsWithinLimits (record fresh.core { safe = 1 })
+what_is_safe_is_not_above_the_last_number within =
+    let safe : 1 ≤ 0 = within.until_now in
+    absurd (omega (arith, safe))
+
+it_may_be_loaded : LoadsWithinLimits (loads (core.formatted small))
+it_may_be_loaded = a_new_device_is_within_them

@@ -1,5 +1,5 @@
 -- Creations and drops may come before all writes.
-use Rattle.std.proofs.Common.{◌≡◌, ℕ, ◌+◌, ◌<◌, ◌≤◌, ◌==◌, Bool, true, false, not, cond, List, [], ◌∷◌, ◌++◌, map, flat_map, refl, sym, ◌∙◌, ap, subst, arith}
+use Rattle.std.proofs.Common.{◌≡◌, ℕ, ◌+◌, ◌<◌, ◌≤◌, ◌==◌, Bool, true, false, not, cond, List, [], ◌∷◌, ◌++◌, length, map, flat_map, refl, sym, ◌∙◌, ap, subst, arith}
 use Rattle.std.specs.FinMap as fin_map
 use Rattle.std.proofs.lemmas.Bool.{ne_eqb}
 use Rattle.hse_rows.specs.declared.write.Write.{Write}
@@ -7,7 +7,7 @@ use Rattle.hse_rows.specs.State.{Contents, Store, State, changed, contents_after
 use Rattle.hse_rows.specs.Holding.{written_all, applied_all-stores}
 use Rattle.hse_rows.specs.History.{Event, commits, creates, drops, new_store, without, happened, folded}
 use Rattle.hse_rows.specs.Recorded.{commits_in}
-use Rattle.hse_rows.specs.Rooted.{writes_of, bare, AreUpTo, AreRooted}
+use Rattle.hse_rows.specs.Rooted.{writes_in, writes_of, bare, AreUpTo, AreRooted}
 
 pub applied_all-append : (state : State) (writes later : List Write) → applied_all state (writes ++ later) ≡ applied_all (applied_all state writes) later
 applied_all-append state [] later = refl
@@ -111,3 +111,13 @@ commits-writes number (drops id ∷ events) = commits-writes (number + 1) events
 pub rooted_front : (number : ℕ) (events later : List Event) → AreRooted number (events ++ later) → AreRooted number events
 rooted_front number [] later rooted = tt
 rooted_front number (event ∷ events) later rooted = (rooted.0, rooted_front (number + 1) events later rooted.1)
+
+-- one event more
+pub rooted_push : (number : ℕ) (events : List Event) (event : Event) → AreRooted number events → AreUpTo (number + length events) (writes_in event)
+    → AreRooted number (events ++ event ∷ [])
+rooted_push number [] event rooted up_to =
+    let here : number + length {A = Event} [] ≡ number = omega arith in
+    (subst (λ (n : ℕ). AreUpTo n (writes_in event)) here up_to, tt)
+rooted_push number (first ∷ events) event rooted up_to =
+    let there : number + length (first ∷ events) ≡ number + 1 + length events = omega arith in
+    (rooted.0, rooted_push (number + 1) events event rooted.1 (subst (λ (n : ℕ). AreUpTo n (writes_in event)) there up_to))

@@ -15,12 +15,15 @@ use Rattle.hse_rows.specs.Reach.{reaches, leaves}
 use Rattle.hse_rows.specs.State.{Contents, Store, State, IsState, changed, store_named, store_of, applied, applied_all}
 use Rattle.hse_rows.specs.Holding.{get-changed, get-contents_after_all}
 use Rattle.hse_rows.specs.History.{new_store, without}
-use Rattle.hse_rows.specs.Lines.{list_stores}
-use Rattle.hse_rows.specs.Answers.{Answer, listed}
 use Rattle.hse_rows.specs.Log.{new_log}
-use Rattle.hse_rows.specs.Machine.{loaded, new_manifest, for_store}
-use Rattle.hse_rows.specs.Step.{IsFound, loads, breaks_off, reply}
-use Rattle.hse_rows.specs.Answers as answers
+use Rattle.hse_rows.specs.Timeline.{for_some}
+use Rattle.hse_rows.specs.Replies.{listed, superblock}
+use Rattle.hse_rows.specs.Calls.{list_stores}
+use Rattle.hse_rows.specs.Core.{life, new_manifest}
+use Rattle.hse_rows.specs.CoreReply.{reply}
+use Rattle.hse_rows.specs.CoreStep.{loads, breaks_off}
+use Rattle.hse_rows.specs.CoreLaws.{LoadsState}
+use Rattle.hse_rows.proofs.CaseLines.{without_sets}
 use Rattle.hse_rows.proofs.MachineCases.{small}
 
 -- ---- what a change does to contents
@@ -90,7 +93,7 @@ put_k id = of id (Put (codes "k") (codes "v"))
 
 -- what a key of the store of this id holds
 abbrev held : State → ℕ → List ℕ → Option (List ℕ)
-held of_state id key = for_store (store_of of_state id) None (λ store. fin_map.get store.contents key)
+held of_state id key = for_some (store_of of_state id) None (λ store. fin_map.get store.contents key)
 
 a_write_changes_its_store : held (applied state (put_k 3)) 3 (codes "k") ≡ Some (codes "v")
 a_write_changes_its_store = get-contents_after_all 3 fin_map.empty (put_k 3 ∷ []) (codes "k")
@@ -137,7 +140,7 @@ of_three = record {
 }
 
 stores_are_listed_by_name :
-    reply (loaded small of_three new_log new_manifest 0) list_stores
+    reply (life (without_sets small of_three new_log new_manifest)) list_stores
     ≡ listed
     (record { name = codes "s"; mode = Plain; prefix_length = 0 }
     ∷ record { name = codes "t"; mode = Tx; prefix_length = 0 }
@@ -173,11 +176,11 @@ an_id_above_the_number_is_none is =
     let within : 3 ≤ 2 = is.rising.2.1 in
     absurd (omega (arith, within))
 
-a_state_may_be_found : IsFound (loads (loaded small state new_log new_manifest 0))
+a_state_may_be_found : LoadsState (loads (without_sets small state new_log new_manifest))
 a_state_may_be_found = two_names_for_two_ids_are_a_state
 
-two_stores_of_one_name_may_not : ¬ IsFound (loads (loaded small of_one_name new_log new_manifest 0))
+two_stores_of_one_name_may_not : ¬ LoadsState (loads (without_sets small of_one_name new_log new_manifest))
 two_stores_of_one_name_may_not = one_name_for_two_ids_is_none
 
-a_place_that_is_not_formed_may_be_found : IsFound (breaks_off answers.superblock 0)
+a_place_that_is_not_formed_may_be_found : LoadsState (breaks_off superblock 0)
 a_place_that_is_not_formed_may_be_found = tt

@@ -19,7 +19,7 @@ use Rattle.hse_rows.specs.Moves.{Move, begin, write_in, write_out, commit, abort
 use Rattle.hse_rows.specs.Timeline.{Timeline, number_of, transaction_of, HasStore, IsActive, Allows, for_some, committing, moved}
 use Rattle.hse_rows.specs.Isolation.{IsIsolated}
 use Rattle.hse_rows.proofs.ModeLemmas.{id_within, folded_rising}
-use Rattle.hse_rows.proofs.StepRoots.{rooted_push}
+use Rattle.hse_rows.proofs.RootedLemmas.{rooted_push}
 
 -- ---- what all writes are, all of their normal form are
 

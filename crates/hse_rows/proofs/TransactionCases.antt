@@ -14,7 +14,7 @@ use Rattle.hse_rows.specs.State.{State, store_of}
 use Rattle.hse_rows.specs.Holding.{get-contents_after_all}
 use Rattle.hse_rows.specs.History.{Event, commits, creates, drops}
 use Rattle.hse_rows.specs.Transaction.{Transaction, begins, staged, ended, committed, aborted, read_of}
-use Rattle.hse_rows.specs.Machine.{for_store}
+use Rattle.hse_rows.specs.Timeline.{for_some}
 use Rattle.hse_rows.specs.Conflict.{held, since, conflict_of}
 
 abbrev of : Change → Write
@@ -118,7 +118,7 @@ reader = staged (staged (begins 1 2) (of (Put (codes "m") (codes "5")))) (of (De
 
 abbrev reads : Transaction → List ℕ → Option (List ℕ)
 reads transaction key =
-    for_store (store_of (read_of nothing read_history transaction) 1) None (λ store. fin_map.get store.contents key)
+    for_some (store_of (read_of nothing read_history transaction) 1) None (λ store. fin_map.get store.contents key)
 
 it_reads_its_snapshot : reads (begins 1 2) (codes "k") ≡ Some (codes "1")
 it_reads_its_snapshot = get-contents_after_all 1 fin_map.empty (of (Put (codes "k") (codes "1")) ∷ []) (codes "k")

@@ -10,6 +10,8 @@ use Rattle.hse_rows.specs.Turn.{TurnWish, sync, freeze, install, create, drop}
 use Rattle.hse_rows.specs.Replies.{Refusal, Answer, refused, no_memory, device_fault, canceled_held, canceled_since}
 use Rattle.hse_rows.specs.Calls.{Call, begin, write_by, get, commit, abort, list_stores, tree, info, take_place, give_place, pick, build, drop_job, next_job, take, write_turn, end_turn, reopen}
 use Rattle.hse_rows.specs.Core.{Core, Stored, life}
+use Rattle.hse_rows.specs.Log.{Numbered}
+use Rattle.hse_rows.specs.Recorded.{IsRecorded}
 use Rattle.hse_rows.specs.Limits.{IsWithinLimits}
 use Rattle.hse_rows.specs.CoreStep.{Found, loads, breaks_off, has_version, Step, answer_of, led_to}
 
@@ -174,3 +176,11 @@ abbrev pub StepsKeepLimits : Type 0
 StepsKeepLimits =
     (found : Found) (old new : Core) (call : Call) (answer : Answer ℕ)
     → IsWithinLimits old → LoadsWithinLimits found → Step found old call answer new → IsWithinLimits new
+
+-- ---- what the log keeps
+
+-- Until a reopening, the log has the commits of the history, but for those up to the horizon.
+abbrev pub StepsRecordCommits : Type 0
+StepsRecordCommits =
+    (before : List Numbered) (found : Found) (old new : Core) (call : Call) (answer : Answer ℕ)
+    → call ≢ reopen → IsRecorded before old → Step found old call answer new → IsRecorded before new

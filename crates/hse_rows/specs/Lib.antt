@@ -18,12 +18,6 @@ pub mod Log
 pub mod Sizes
 pub mod TakenRuns
 pub mod ManifestRoom
-pub mod Lines
-pub mod Answers
-pub mod Machine
-pub mod Recorded
-pub mod FirstRefusal
-pub mod Step
 pub mod Transaction
 pub mod Conflict
 pub mod Moves
@@ -49,6 +43,7 @@ pub mod CoreReply
 pub mod CoreDone
 pub mod CoreStep
 pub mod Limits
+pub mod Recorded
 pub mod CoreLaws
 pub mod ScriptLines
 pub mod Script

@@ -5,7 +5,7 @@ ghost use Rattle.hse_rows.specs.CoreLaws.{OthersKeepTimelines, OthersKeepCursors
 ghost use Rattle.hse_rows.specs.CoreLaws.{LivesStand, StepsKeepStanding};
 ghost use Rattle.hse_rows.specs.CoreLaws.{AnswersLeadOneWay, RefusalsChangeNothing};
 ghost use Rattle.hse_rows.specs.CoreLaws.{CallsAreAnswered, CallsHaveOneAnswer};
-ghost use Rattle.hse_rows.specs.CoreLaws.{StepsKeepLimits};
+ghost use Rattle.hse_rows.specs.CoreLaws.{StepsKeepLimits, StepsRecordCommits};
 
 /// Snapshot isolation. In every run no two transactions that each began before the other's commit
 /// both committed overlapping writes, and a commit is never canceled.
@@ -32,7 +32,7 @@ pub fn timelines_stand()
 
 /// An answer of the core leads one way. A refusal changes nothing, but that an end gives a turn back
 /// whose device calls failed.
-pub fn core_answers_lead_one_way()
+pub fn answers_lead_one_way()
     ensures one_way { AnswersLeadOneWay }
     ensures refused { RefusalsChangeNothing }
 {}
@@ -48,4 +48,10 @@ pub fn calls_have_one_answer()
 /// within their limits, and what is safe is between the base and the last number.
 pub fn calls_keep_limits()
     ensures { StepsKeepLimits }
+{}
+
+/// Until a reopening, each event but creations and drops stands in the log, or its number is up to
+/// the horizon.
+pub fn calls_record_commits()
+    ensures { StepsRecordCommits }
 {}

@@ -2,11 +2,8 @@
 ghost use Rattle.hse_rows.specs.Laws.{KeysHoldLastEffects, NormalFormsDoTheSame};
 ghost use Rattle.hse_rows.specs.Laws.{NormalFormsOverlapTheSame, OverlapsGoBothWays};
 ghost use Rattle.hse_rows.specs.Laws.{LastStateHasLastNumber, SnapshotsStay};
-ghost use Rattle.hse_rows.specs.Laws.{AnswersLeadOneWay, RefusalsChangeNothing};
-ghost use Rattle.hse_rows.specs.Laws.{LinesAreAnswered, LinesHaveOneAnswer};
-ghost use Rattle.hse_rows.specs.Laws.{CreationsMayComeFirst, FrontsAreRooted, StepsKeepRoots};
-ghost use Rattle.hse_rows.specs.Laws.{StepsRecordEvents, CommitsHaveTheWrites};
-ghost use Rattle.hse_rows.specs.Laws.{StepsKeepStates, StepsKeepLimits};
+ghost use Rattle.hse_rows.specs.Laws.{CreationsMayComeFirst, FrontsAreRooted};
+ghost use Rattle.hse_rows.specs.Laws.{CommitsHaveTheWrites};
 ghost use Rattle.hse_rows.specs.Isolation.{MovesKeepIsolated, SnapshotsAreIsolated};
 ghost use Rattle.hse_rows.specs.Sources.{MovesKeepSources, MovesKeepRoots};
 ghost use Rattle.hse_rows.specs.Sources.{ConflictsAreOfTransactions};
@@ -39,46 +36,13 @@ pub fn snapshots_stay()
     ensures stay { SnapshotsStay }
 {}
 
-/// In the snapshot machine an answer leads one way, and a refusal changes nothing.
-pub fn answers_lead_one_way()
-    ensures one_way { AnswersLeadOneWay }
-    ensures refused { RefusalsChangeNothing }
-{}
-
-/// In the snapshot machine each line has an answer, and but for want of memory and a device fault no
-/// other.
-pub fn lines_have_one_answer()
-    ensures answered { LinesAreAnswered }
-    ensures one { LinesHaveOneAnswer }
-{}
-
 /// Where each commit writes to stores that were created before it, a history leads where its creations
 /// and drops alone lead, and then the writes of all its commits in order. A front of such a history
-/// is one.
+/// is one. The numbered commits of a history have its writes.
 pub fn creations_may_come_first()
     ensures parts { CreationsMayComeFirst }
     ensures fronts { FrontsAreRooted }
-{}
-
-/// In the snapshot machine two stores have two names and two ids, ids are numbers of events, and each
-/// commit writes to stores that were created before it.
-pub fn steps_keep_states()
-    ensures states { StepsKeepStates }
-    ensures roots { StepsKeepRoots }
-{}
-
-/// In the snapshot machine, until a reopening, the log has the commits of the history in order, and
-/// while no device call failed the manifest has the numbers of its creations and drops. The writes of
-/// these commits are those of the history.
-pub fn steps_record_events()
-    ensures recorded { StepsRecordEvents }
     ensures writes { CommitsHaveTheWrites }
-{}
-
-/// In the snapshot machine the log's commits have room in their segment and the manifest's batches in
-/// their half, and numbers and counts are within their limits.
-pub fn steps_keep_limits()
-    ensures { StepsKeepLimits }
 {}
 
 /// Snapshot isolation. No two transactions that each began before the other's commit both committed

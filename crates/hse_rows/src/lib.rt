@@ -20,16 +20,15 @@ mod write_set;
 
 pub use change::{Change, ChangeRef};
 pub use core_laws::{
-    calls_have_one_answer, calls_keep_limits, core_answers_lead_one_way, others_keep_timelines, runs_are_isolated,
-    timelines_stand,
+    answers_lead_one_way, calls_have_one_answer, calls_keep_limits, calls_record_commits,
+    others_keep_timelines, runs_are_isolated, timelines_stand,
 };
 pub use edge::Edge;
 pub use key::{Key, KeyFault};
 pub use laws::{
-    answers_lead_one_way, conflicts_are_of_transactions, creations_may_come_first,
-    keys_hold_last_effects, lines_have_one_answer, normal_forms_do_the_same,
-    normal_forms_overlap_the_same, overlaps_go_both_ways, snapshots_are_isolated, snapshots_stay,
-    steps_keep_limits, steps_keep_states, steps_record_events,
+    conflicts_are_of_transactions, creations_may_come_first, keys_hold_last_effects,
+    normal_forms_do_the_same, normal_forms_overlap_the_same, overlaps_go_both_ways,
+    snapshots_are_isolated, snapshots_stay,
 };
 pub use name::{NameFault, StoreName};
 pub use normal_form::{charges_grow_by_the_change_at_most, normal_forms_are_in_order};
