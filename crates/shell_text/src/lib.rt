@@ -21,6 +21,3 @@ pub use line::{Actor, Line, TextFault};
 pub use parse::parse_line;
 pub use print::print_reply;
 pub use reply::{Refused, RegionText, Reply, StoreText, StoreTexts};
-
-#[cfg(test)]
-mod tests;

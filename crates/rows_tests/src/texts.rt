@@ -1,9 +1,9 @@
 //! Lines and replies, with their meanings and texts worked by hand.
-use crate::{
+use hse_rows::{Mode, StoreName};
+use shell_text::{
     Actor, Item, Line, Refused, RegionText, Reply, StoreText, StoreTexts, TextFault,
     items_read_back, lines_have_one_meaning, parse_line, print_reply,
 };
-use hse_rows::{Mode, StoreName};
 use std::alloc::Global;
 use std::process::Abort;
 use std::test::Fail;
