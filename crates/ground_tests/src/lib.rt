@@ -4,4 +4,8 @@
 #[cfg(test)]
 mod disks;
 #[cfg(test)]
+mod fields;
+#[cfg(test)]
 mod regions;
+#[cfg(test)]
+mod segments;

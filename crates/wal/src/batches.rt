@@ -22,8 +22,8 @@ impl<'b, 'a> Reader<'b, 'a> {
     fn batch(self, end: u64) -> Result<(Vec<Commit>, Expected<'a>), SegmentFault>
         requires { 4 + length self.bytes.now ≤ end }
         ensures { Tells (λ x. (entries_of x.0.items, numbers_as x.1)) result (before end
-            (payload_of (numbering self.entry.live.now) self.entry.most (numbers_as self.entry.expected)
-            self.entry.bytes.now)) }
+            (payload_of (numbering self.entry.live.now) self.entry.most
+            (numbers_as self.entry.expected) self.entry.bytes.now)) }
     {
         match self.payload() {
             Ok(read) => Ok(read),
@@ -32,16 +32,16 @@ impl<'b, 'a> Reader<'b, 'a> {
         }
     }
 
-    /// The commits of these batches of a region, the first of them behind its sequence, and what may
-    /// come after them.
+    /// The commits of these batches of a region, the first of them behind its sequence, and what
+    /// may come after them.
     pub(crate) fn batches(
         self,
         batches: &[Payload],
     ) -> Result<(Vec<Commit>, Expected<'a>), SegmentFault>
         requires { tail_of (payloads_of batches.now) < 2 ^ 64 }
         ensures gives { Tells (λ x. (entries_of x.0.items, numbers_as x.1)) result
-            (batches_of self.entry.live.now self.entry.most (numbers_as self.entry.expected) first_gate
-            (payloads_of batches.now)) }
+            (batches_of self.entry.live.now self.entry.most (numbers_as self.entry.expected)
+            first_gate (payloads_of batches.now)) }
         // The batches take no more than the charges; the sequence stands before the first of them.
         ensures sized { IfOk result (λ x. tail_of (payloads_of batches.now)
             ≤ first_gate + charges (entries_of x.0.items)) }
