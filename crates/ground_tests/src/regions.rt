@@ -140,7 +140,12 @@ fn stopped_again(rt: &impl Abort, alloc: Global, first: u64) -> Result<[bool; 2]
     let mut seen = [false, false];
     for second in 0..40 {
         let (between, after) = held_twice(rt, alloc, first, second)?;
-        assert!(rt; matches!(between, Holding::Nothing | Holding::Batches(1, 1) | Holding::Batches(2, 0)));
+        assert!(rt;
+            matches!(
+                between,
+                Holding::Nothing | Holding::Batches(1, 1) | Holding::Batches(2, 0)
+            )
+        );
         assert!(rt; after == between || matches!(after, Holding::Nothing | Holding::Batches(3, 0)));
         seen[0] = seen[0] || between == Holding::Nothing && after == Holding::Nothing;
         seen[1] = seen[1] || between == Holding::Batches(1, 1) && after == between;

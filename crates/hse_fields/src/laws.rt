@@ -1,5 +1,5 @@
-//! Laws of the fields, and of the log's text that is made of them. These functions do nothing; their
-//! contracts are the laws.
+//! Laws of the fields, and of the log's text that is made of them. These functions do nothing;
+//! their contracts are the laws.
 ghost use Rattle.std.specs.Prelude.{◌≡◌, ◌^◌, ◌+◌, ◌<◌, ◌≤◌, ◌++◌, ℕ, List, length, Ok, Err, slice_index};
 ghost use Rattle.byteorder.specs.Endian.{big_bytes};
 ghost use Rattle.hse_fields.specs.Fields.{bytes_of, number_of};
@@ -15,9 +15,9 @@ pub fn put_is_taken()
         → bytes_of (length bytes) (bytes ++ rest) ≡ Ok (bytes, rest) }
 {}
 
-/// The log's text has one reading: a payload's bytes that are read are the text of what was read, and
-/// what is spelled so is read. So a payload that is refused is no text of the log, and the refused
-/// field lies in its batch, from the batch's length on.
+/// The log's text has one reading: a payload's bytes that are read are the text of what was read,
+/// and what is spelled so is read. So a payload that is refused is no text of the log, and the
+/// refused field lies in its batch, from the batch's length on.
 pub fn log_text_is_read()
     ensures read { (most : ℕ) (bytes : List ℕ) (entries : List Entry)
         → ((i : ℕ) → slice_index bytes i < 256) → payload_of any most tt bytes ≡ Ok (entries, tt)
@@ -32,8 +32,8 @@ pub fn log_text_is_read()
 {}
 
 /// The same where a rule asks more of the entries: what is read are entries that may come one after
-/// another and whose prefix deletes have lengths that fit, and what is spelled so of such entries is
-/// read.
+/// another and whose prefix deletes have lengths that fit, and what is spelled so of such entries
+/// is read.
 pub fn log_text_is_read_by_rule<S>()
     ensures read { (rule : Rule S) (most : ℕ) (state last : S) (bytes : List ℕ)
         (entries : List Entry) → ((i : ℕ) → slice_index bytes i < 256)

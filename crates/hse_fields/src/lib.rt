@@ -1,5 +1,5 @@
-//! Fields of the device's formats: numbers, the highest byte first, and bytes. `specs/` has the text of
-//! the log's batches, which is made of them.
+//! Fields of the device's formats: numbers, the highest byte first, and bytes. `specs/` has the
+//! text of the log's batches, which is made of them.
 #![tactic(auto)]
 
 mod laws;

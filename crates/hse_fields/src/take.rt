@@ -56,8 +56,8 @@ pub fn take_u64(bytes: &[u8]) -> Result<(u64, &[u8]), Short>
     Ok((BigEndian::read_u64(field), rest))
 }
 
-/// The first bytes, so many of them, and the bytes behind them. `Short` comes exactly where there are
-/// fewer.
+/// The first bytes, so many of them, and the bytes behind them. `Short` comes exactly where there
+/// are fewer.
 pub fn take_bytes(bytes: &[u8], len: u64) -> Result<(&[u8], &[u8]), Short>
     ensures { IsTaken len (λ x. (x.0.now, x.1.now)) result (bytes_of len bytes.now) }
 {

@@ -85,9 +85,9 @@ impl<'b, 'a> Reader<'b, 'a> {
         Ok((kind, rest))
     }
 
-    /// The name behind its length, of a change of this kind and store with so many bytes from its first one
-    /// on. The order is tested before the length, since a change that breaks it is refused at its first
-    /// byte, which is the lower place.
+    /// The name behind its length, of a change of this kind and store with so many bytes from its
+    /// first one on. The order is tested before the length, since a change that breaks it is
+    /// refused at its first byte, which is the lower place.
     #[tactic(auto, unfolding(hse_fields::specs::LogReading::name_of))]
     fn name(
         self,
@@ -97,8 +97,8 @@ impl<'b, 'a> Reader<'b, 'a> {
         store: u64,
     ) -> Result<(&'b [u8], &'b [u8]), Refusal>
         ensures gives { Gives (λ x. (x.0.now, x.1.now)) result
-            (name_of (prefix_fits self.entry.live.now) (last_of last.entry) left (kind_as kind) store
-            self.entry.bytes.now) }
+            (name_of (prefix_fits self.entry.live.now) (last_of last.entry) left (kind_as kind)
+            store self.entry.bytes.now) }
         ensures some { IfOk result (λ x. 1 ≤ length x.0.now) }
         ensures short { IfOk result (λ x. length x.0.now ≤ longest_name (kind_as kind)) }
     {

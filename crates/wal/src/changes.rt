@@ -14,7 +14,8 @@ impl<'b, 'a> Reader<'b, 'a> {
     /// So many changes, each of which may stand behind the one before it.
     fn writes(self, count: u32) -> Result<(Vec<Write>, &'b [u8]), Refusal>
         ensures { Gives (λ x. (logged_all x.0.items, x.1.now)) result
-            (more_changes_of (prefix_fits self.entry.live.now) self.entry.most None count self.entry.bytes.now) }
+            (more_changes_of (prefix_fits self.entry.live.now) self.entry.most None count
+            self.entry.bytes.now) }
     {
         let mut writes = Vec::new(self.alloc);
         let mut rest = self.bytes;

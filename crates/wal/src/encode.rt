@@ -69,8 +69,9 @@ fn put_change(into: &mut Vec<u8>, store: StoreId, change: ChangeRef<'_>) -> Resu
     }
 }
 
-/// Puts the entry of a commit behind the others: all of it or, out of memory, nothing. So commits may
-/// be put one by one, as they come; their payload is their count, of four bytes, and these bytes.
+/// Puts the entry of a commit behind the others: all of it or, out of memory, nothing. So commits
+/// may be put one by one, as they come; their payload is their count, of four bytes, and these
+/// bytes.
 ///
 /// The condition: the entry has fewer than 2^32 bytes.
 pub fn put_entry(into: &mut Vec<u8>, commit: &Commit) -> Result<(), NoMemory>

@@ -1,6 +1,7 @@
 //! Reads one commit.
 ghost use Rattle.std.specs.Prelude.{◌≡◌, ℕ, List, Ok, Err, IfOk, IfErr};
-ghost use Rattle.hse_fields.specs.LogReading.{changes_of, has_room as room_for, entry_of as entry_read};
+ghost use Rattle.hse_fields.specs.LogReading.{changes_of, has_room as room_for};
+ghost use Rattle.hse_fields.specs.LogReading.{entry_of as entry_read};
 ghost use Rattle.wal.specs.Expected.{numbers_as};
 ghost use Rattle.wal.specs.Given.{Fails, Gives};
 ghost use Rattle.wal.specs.Live.{prefix_fits};
@@ -18,11 +19,12 @@ use hse_io::NoMemory;
 use hse_rows::WriteSet;
 
 impl<'b, 'a> Reader<'b, 'a> {
-    /// Whether there is room for an entry with these changes, as far as they can be read at all: whatever
-    /// stores are live, and however long its values are.
+    /// Whether there is room for an entry with these changes, as far as they can be read at all:
+    /// whatever stores are live, and however long its values are.
     fn has_room(self) -> Result<bool, NoMemory>
         ensures { IfOk result (λ enough. (live : List a_prefix) (number : ℕ) → enough
-            ≡ room_for (numbering live) (numbers_as self.entry.expected) number self.entry.bytes.now) }
+            ≡ room_for (numbering live) (numbers_as self.entry.expected) number
+            self.entry.bytes.now) }
     {
         let most = LONGEST_VALUE;
         match (Reader {
@@ -38,8 +40,8 @@ impl<'b, 'a> Reader<'b, 'a> {
         }
     }
 
-    /// How an entry is refused whose changes are refused there, where it has so many bytes from its number
-    /// on: at the number, since that is the lower place, where there is no room for it.
+    /// How an entry is refused whose changes are refused there, where it has so many bytes from its
+    /// number on: at the number, since that is the lower place, where there is no room for it.
     fn refusal_of_changes(self, left: u64, there: u64) -> Refusal
         ensures { (live : List a_prefix) (most number : ℕ)
             → changes_of (prefix_fits live) most self.entry.bytes.now ≡ Err there
@@ -53,15 +55,15 @@ impl<'b, 'a> Reader<'b, 'a> {
         }
     }
 
-    /// The changes of an entry behind its number, where it has so many bytes from its number on. Only
-    /// where they are refused they are read once more, for what they take of the room.
+    /// The changes of an entry behind its number, where it has so many bytes from its number on.
+    /// Only where they are refused they are read once more, for what they take of the room.
     fn changes_of_entry(self, left: u64) -> Result<(WriteSet, &'b [u8]), Refusal>
         ensures read { IfOk result (λ x.
             changes_of (prefix_fits self.entry.live.now) self.entry.most self.entry.bytes.now
             ≡ Ok (logged_all x.0, x.1.now)) }
         ensures refused { (number : ℕ) → IfErr result (λ refusal. Fails refusal
-            (changes_in_room self.entry.live.now self.entry.most (numbers_as self.entry.expected) number left
-            self.entry.bytes.now)) }
+            (changes_in_room self.entry.live.now self.entry.most (numbers_as self.entry.expected)
+            number left self.entry.bytes.now)) }
     {
         match self.changes() {
             Ok(read) => Ok(read),
@@ -74,8 +76,8 @@ impl<'b, 'a> Reader<'b, 'a> {
     #[tactic(auto, unfolding(hse_fields::specs::LogReading::entry_of))]
     pub(crate) fn entry(self) -> Result<((Commit, Expected<'a>), &'b [u8]), Refusal>
         ensures { Gives (λ x. ((entry_of x.0.0, numbers_as x.0.1), x.1.now)) result
-            (entry_read (numbering self.entry.live.now) self.entry.most (numbers_as self.entry.expected)
-            self.entry.bytes.now) }
+            (entry_read (numbering self.entry.live.now) self.entry.most
+            (numbers_as self.entry.expected) self.entry.bytes.now) }
     {
         let left = self.bytes.len() as u64;
         let (number, rest) = take_u64(self.bytes)?;

@@ -13,8 +13,8 @@ ghost use Rattle.wal.specs.Replaying.{segment_of};
 ghost use Rattle.wal.specs.declared.live.StorePrefix.{StorePrefix as a_prefix};
 ghost use Rattle.wal.specs.Taken.{with_taken, FollowsNumbers, MayFollow};
 
-/// Where no number is taken, the commits that are replayed are numbered one after another, and their
-/// charges fit into the room.
+/// Where no number is taken, the commits that are replayed are numbered one after another, and
+/// their charges fit into the room.
 pub fn replayed_is_a_run()
     ensures payload { (live : List a_prefix) (most next room : ℕ) (bytes : List ℕ)
         (entries : List Entry) (last : Numbers)
@@ -35,9 +35,10 @@ pub fn entries_follow_the_numbers()
         → FollowsNumbers state entries last }
 {}
 
-/// Commits whose numbers rise strictly from the least number that may come, and skip none that is not
-/// taken, of at most 2^62, may come one after another where the room is enough for their charges; so
-/// their text is read as these commits. It is the converse of what `entries_follow_the_numbers` says.
+/// Commits whose numbers rise strictly from the least number that may come, and skip none that is
+/// not taken, of at most 2^62, may come one after another where the room is enough for their
+/// charges; so their text is read as these commits. It is the converse of what
+/// `entries_follow_the_numbers` says.
 pub fn numbers_without_a_gap_follow()
     ensures { (live : List a_prefix) (state : Numbers) (entries : List Entry)
         → IsStrictlyIncreasing state.taken → MayFollow state entries

@@ -16,8 +16,8 @@ impl<'b, 'a> Reader<'b, 'a> {
     /// So many commits, and what may come after them.
     fn entries(self, count: u32) -> Result<((Vec<Commit>, Expected<'a>), &'b [u8]), Refusal>
         ensures { Gives (λ x. ((entries_of x.0.0.items, numbers_as x.0.1), x.1.now)) result
-            (entries_read (numbering self.entry.live.now) self.entry.most (numbers_as self.entry.expected) count
-            self.entry.bytes.now) }
+            (entries_read (numbering self.entry.live.now) self.entry.most
+            (numbers_as self.entry.expected) count self.entry.bytes.now) }
     {
         let mut commits = Vec::new(self.alloc);
         let mut expected = self.expected;
@@ -36,13 +36,13 @@ impl<'b, 'a> Reader<'b, 'a> {
         Ok(((commits, expected), rest))
     }
 
-    /// The commits of a whole payload, and what may come after them. Bytes that are left over behind them
-    /// are refused at the batch's length, the four bytes before the payload.
+    /// The commits of a whole payload, and what may come after them. Bytes that are left over
+    /// behind them are refused at the batch's length, the four bytes before the payload.
     #[tactic(auto, unfolding(hse_fields::specs::LogReading::payload_of))]
     pub(crate) fn payload(self) -> Result<(Vec<Commit>, Expected<'a>), Refusal>
         ensures { Gives (λ x. (entries_of x.0.items, numbers_as x.1)) result
-            (payload_of (numbering self.entry.live.now) self.entry.most (numbers_as self.entry.expected)
-            self.entry.bytes.now) }
+            (payload_of (numbering self.entry.live.now) self.entry.most
+            (numbers_as self.entry.expected) self.entry.bytes.now) }
     {
         let (count, rest) = take_u32(self.bytes)?;
         if count == 0 {

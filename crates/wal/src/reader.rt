@@ -13,8 +13,8 @@ use crate::refusal::Refusal;
 use hse_fields::{take_bytes, take_u32};
 use std::alloc::Global;
 
-/// The bytes of a payload that are left, and what is asked of what stands there. Each of its calls reads
-/// what stands first, and gives the bytes behind it.
+/// The bytes of a payload that are left, and what is asked of what stands there. Each of its calls
+/// reads what stands first, and gives the bytes behind it.
 #[derive(Clone, Copy)]
 pub(crate) struct Reader<'b, 'a> {
     pub(crate) alloc: Global,

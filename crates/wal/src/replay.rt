@@ -15,15 +15,16 @@ const END: u64 = 64;
 
 /// The commits of a segment, by what the region of this size holds, as `gate_log::read_front` gives
 /// it; so a caller can test the sequence first. Values have at most `most` bytes, the first commit
-/// has the number `next` or, where that is taken, the first one behind it that is not; `taken` are the
-/// numbers that the manifest has taken, ascending. `live` has the prefix length of each live store.
+/// has the number `next` or, where that is taken, the first one behind it that is not; `taken` are
+/// the numbers that the manifest has taken, ascending. `live` has the prefix length of each live
+/// store.
 ///
-/// `Damaged` has the place in the region of the first field that is refused: of the first batch that
-/// the log's text refuses, the length of a prefix delete's prefix that is not its live store's, a
-/// commit's number that is not the next one or is above 2^62, a commit that takes more than the
-/// region's size less 64 leaves, at its number, or the length of a batch that does not lie inside the
-/// region. A commit that takes too much is refused before any length in its changes, where these can
-/// be read at all, since its number is the lower place.
+/// `Damaged` has the place in the region of the first field that is refused: of the first batch
+/// that the log's text refuses, the length of a prefix delete's prefix that is not its live
+/// store's, a commit's number that is not the next one or is above 2^62, a commit that takes more
+/// than the region's size less 64 leaves, at its number, or the length of a batch that does not lie
+/// inside the region. A commit that takes too much is refused before any length in its changes,
+/// where these can be read at all, since its number is the lower place.
 ///
 /// The conditions: the batches lie inside a region of this size, and the first number is at most
 /// 2^62 + 1.

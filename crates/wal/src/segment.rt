@@ -6,8 +6,8 @@ use std::alloc::AllocError;
 use thiserror::Error;
 
 /// What a segment holds: its sequence, its commits in the order of their numbers, what they take of
-/// its room in bytes, the place of the closed gate behind its batches, and the least number that may
-/// come next, unless it is taken.
+/// its room in bytes, the place of the closed gate behind its batches, and the least number that
+/// may come next, unless it is taken.
 #[derive(Drop)]
 pub struct Segment {
     pub sequence: u64,

@@ -1,6 +1,6 @@
 //! Laws of segments. These functions do nothing; their contracts are the laws.
 ghost use Rattle.std.specs.Prelude.{◌≡◌, ◌+◌, ◌++◌, ◌∷◌, [], ℕ, List, Ok};
-ghost use Rattle.gate_log.specs.Gates.{IsShut};
+ghost use Rattle.gate_log.specs.Gates.{IsClosed};
 ghost use Rattle.gate_log.specs.declared.front.End.{End as an_end};
 ghost use Rattle.gate_log.specs.declared.front.End.TheVariants.{Closed};
 ghost use Rattle.gate_log.specs.declared.region.Tail.{Tail as a_tail};
@@ -29,10 +29,12 @@ pub fn one_replay()
     ensures segment_not_refused { (region : List ℕ) (live : List a_prefix) (most : ℕ)
         (start : Numbers) (segment : a_segment) (place : ℕ)
         → IsSegment region live most start segment → IsRefused region live most start place → ⊥ }
-    ensures segment_not_shut { (region : List ℕ) (live : List a_prefix) (most : ℕ) (start : Numbers)
-        (segment : a_segment) → IsSegment region live most start segment → IsShut region → ⊥ }
-    ensures refused_not_shut { (region : List ℕ) (live : List a_prefix) (most : ℕ) (start : Numbers)
-        (place : ℕ) → IsRefused region live most start place → IsShut region → ⊥ }
+    ensures segment_not_closed { (region : List ℕ) (live : List a_prefix) (most : ℕ)
+        (start : Numbers) (segment : a_segment)
+        → IsSegment region live most start segment → IsClosed region → ⊥ }
+    ensures refused_not_closed { (region : List ℕ) (live : List a_prefix) (most : ℕ)
+        (start : Numbers) (place : ℕ)
+        → IsRefused region live most start place → IsClosed region → ⊥ }
 {}
 
 /// A batch behind a segment's batches is read behind their entries; and of the batches of a segment
@@ -52,7 +54,8 @@ pub fn one_batch_more()
 {}
 
 /// A segment is read the same by two lists of live stores by which the stores that its changes name
-/// have the same prefix lengths. So it is with a store taken out, or put in, that none of them names.
+/// have the same prefix lengths. So it is with a store taken out, or put in, that none of them
+/// names.
 pub fn unnamed_stores_change_nothing()
     ensures alike { (live other : List a_prefix) (most : ℕ) (start last : Numbers)
         (payloads : List (List ℕ)) (end : an_end) (entries : List Entry)
