@@ -1,10 +1,13 @@
-use gate_log::{Region, append, read_front, start};
+use gate_log::{Batch, Region, append, read_front, start};
 use hse_rows::{Change, ChangeRef, Key, StoreId, Value, WriteSet};
 use media_disk::MemDisk;
 use std::alloc::Global;
 use std::process::Abort;
 use std::test::Fail;
-use wal::{Commit, Segment, SegmentFault, StorePrefix, encode_batch, put_entry, segment_in};
+use wal::{
+    Commit, Segment, SegmentFault, StorePrefix, charge_is_length, encode_batch, put_entry,
+    segment_in,
+};
 
 /// The size of the tests' devices.
 const SIZE: u64 = 144;
@@ -54,6 +57,17 @@ fn commit(alloc: Global) -> Result<Commit, Fail> {
     Ok(Commit { number: 2, writes })
 }
 
+/// The batch of that commit.
+fn batch_of(rt: &impl Abort, alloc: Global) -> Result<Batch, Fail> {
+    let commit = commit(alloc)?;
+    let charge = commit.writes.charge();
+    assert!(rt; charge == 61);
+    let count = commit.writes.len();
+    assert!(rt; count == 1);
+    charge_is_length();
+    Ok(encode_batch(alloc, &[commit])?)
+}
+
 /// The segment in a region of this size that begins with these bytes, one of them changed.
 fn segment(
     rt: &impl Abort,
@@ -79,6 +93,19 @@ fn segment(
 }
 
 #[test]
+fn an_entry_has_these_bytes(rt: HostRuntime) -> Result<(), Fail> {
+    let alloc = rt.alloc();
+    let commit = commit(alloc)?;
+    let charge = commit.writes.charge();
+    assert!(rt; charge == 61);
+    charge_is_length();
+    let mut entry = Vec::new(alloc);
+    put_entry(&mut entry, &commit)?;
+    assert!(rt; PUT.get(18..47) == Some(entry.as_slice()));
+    Ok(())
+}
+
+#[test]
 fn a_batch_of_one_commit_has_these_bytes(rt: HostRuntime) -> Result<(), Fail> {
     let alloc = rt.alloc();
     let region = Region { at: 0, size: 128 };
@@ -86,20 +113,12 @@ fn a_batch_of_one_commit_has_these_bytes(rt: HostRuntime) -> Result<(), Fail> {
     let len = disk.bytes().len();
     assert!(rt; len == 128);
     let mut tail = start(&mut disk, &region, 1)?;
-    let commit = commit(alloc)?;
-    let charge = commit.writes.charge();
-    assert!(rt; charge == 61);
-    let count = commit.writes.len();
-    assert!(rt; count == 1);
-    let mut entry = Vec::new(alloc);
-    put_entry(&mut entry, &commit)?;
-    let batch = encode_batch(alloc, &[commit])?;
+    let batch = batch_of(&rt, alloc)?;
     let len = disk.bytes().len();
     assert!(rt; len == 128);
     assert!(rt; tail.place < 128);
     append(&mut disk, &region, &mut tail, &batch)?;
     assert!(rt; disk.bytes().get(0..48) == Some(PUT.as_slice()));
-    assert!(rt; PUT.get(18..47) == Some(entry.as_slice()));
     Ok(())
 }
 

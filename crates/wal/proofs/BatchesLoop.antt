@@ -16,51 +16,51 @@ use Rattle.wal.specs.Replaying.{before, batches_of}
 use Rattle.wal.specs.declared.live.StorePrefix.{StorePrefix}
 
 -- what was read before, and what is still read
-abbrev pub with_front : List Entry → Result (List Entry × Numbers) ℕ → Result (List Entry × Numbers) ℕ
-with_front front read = read >>= λ x. Ok (front ++ x.0, x.1)
+abbrev pub with_beginning : List Entry → Result (List Entry × Numbers) ℕ → Result (List Entry × Numbers) ℕ
+with_beginning beginning read = read >>= λ x. Ok (beginning ++ x.0, x.1)
 
-regroup : (front es : List Entry) (read : Result (List Entry × Numbers) ℕ)
-    → with_front front (read >>= λ x. Ok (es ++ x.0, x.1)) ≡ with_front (front ++ es) read
-regroup front es (Ok x) = ap (λ (l : List Entry). Ok (l, x.1)) (sym (append_assoc front es x.0))
-regroup front es (Err f) = refl
+regroup : (beginning es : List Entry) (read : Result (List Entry × Numbers) ℕ)
+    → with_beginning beginning (read >>= λ x. Ok (es ++ x.0, x.1)) ≡ with_beginning (beginning ++ es) read
+regroup beginning es (Ok x) = ap (λ (l : List Entry). Ok (l, x.1)) (sym (append_assoc beginning es x.0))
+regroup beginning es (Err f) = refl
 
 -- the batches from the one at i on
 pub rest_is : (batches : List Payload) (i : ℕ) (batch : Payload) → i < length batches → batch ≡ get_or batches i batch
     → drop i batches ≡ batch ∷ drop (i + 1) batches
 rest_is batches i batch lt is = drop_more batches i batch lt ∙ ap (λ (b : Payload). b ∷ drop (i + 1) batches) (sym is)
 
-pub goes_on : (live : List StorePrefix) (most : ℕ) (front : List Entry) (state : Numbers) (gate : ℕ) (batches : List Payload) (i : ℕ) (batch : Payload) (es : List Entry) (next : Numbers) (total : Result (List Entry × Numbers) ℕ)
+pub goes_on : (live : List StorePrefix) (most : ℕ) (beginning : List Entry) (state : Numbers) (gate : ℕ) (batches : List Payload) (i : ℕ) (batch : Payload) (es : List Entry) (next : Numbers) (total : Result (List Entry × Numbers) ℕ)
     → i < length batches → batch ≡ get_or batches i batch
     → before (gate + need_of batch.bytes.items) (payload_of (numbering live) most state batch.bytes.items) ≡ Ok (es, next)
-    → with_front front (batches_of live most state gate (payloads_of (drop i batches))) ≡ total
-    → with_front (front ++ es) (batches_of live most next (gate + need_of batch.bytes.items) (payloads_of (drop (i + 1) batches))) ≡ total
+    → with_beginning beginning (batches_of live most state gate (payloads_of (drop i batches))) ≡ total
+    → with_beginning (beginning ++ es) (batches_of live most next (gate + need_of batch.bytes.items) (payloads_of (drop (i + 1) batches))) ≡ total
 unfolding batches_of
-goes_on live most front state gate batches i batch es next total lt is h so_far =
-    let one : with_front front (batches_of live most state gate (payloads_of (drop i batches)))
-    ≡ with_front (front ++ es) (batches_of live most next (gate + need_of batch.bytes.items) (payloads_of (drop (i + 1) batches))) =
-    ap (λ (bs : List Payload). with_front front (batches_of live most state gate (payloads_of bs))) (rest_is batches i batch lt is)
-    ∙ rw h (regroup front es (batches_of live most next (gate + need_of batch.bytes.items) (payloads_of (drop (i + 1) batches)))) in
+goes_on live most beginning state gate batches i batch es next total lt is h so_far =
+    let one : with_beginning beginning (batches_of live most state gate (payloads_of (drop i batches)))
+    ≡ with_beginning (beginning ++ es) (batches_of live most next (gate + need_of batch.bytes.items) (payloads_of (drop (i + 1) batches))) =
+    ap (λ (bs : List Payload). with_beginning beginning (batches_of live most state gate (payloads_of bs))) (rest_is batches i batch lt is)
+    ∙ rw h (regroup beginning es (batches_of live most next (gate + need_of batch.bytes.items) (payloads_of (drop (i + 1) batches)))) in
     sym one ∙ so_far
 
-pub stops : (fault : SegmentFault) (live : List StorePrefix) (most : ℕ) (front : List Entry) (state : Numbers) (gate : ℕ) (batches : List Payload) (i : ℕ) (batch : Payload) (total : Result (List Entry × Numbers) ℕ)
+pub stops : (fault : SegmentFault) (live : List StorePrefix) (most : ℕ) (beginning : List Entry) (state : Numbers) (gate : ℕ) (batches : List Payload) (i : ℕ) (batch : Payload) (total : Result (List Entry × Numbers) ℕ)
     → i < length batches → batch ≡ get_or batches i batch
     → Refuses fault (before (gate + need_of batch.bytes.items) (payload_of (numbering live) most state batch.bytes.items))
-    → with_front front (batches_of live most state gate (payloads_of (drop i batches))) ≡ total → Refuses fault total
+    → with_beginning beginning (batches_of live most state gate (payloads_of (drop i batches))) ≡ total → Refuses fault total
 unfolding batches_of
-stops NoMemory live most front state gate batches i batch total lt is h so_far = tt
-stops (Damaged place) live most front state gate batches i batch total lt is h so_far =
-    let one : with_front front (batches_of live most state gate (payloads_of (drop i batches))) ≡ Err place =
-    ap (λ (bs : List Payload). with_front front (batches_of live most state gate (payloads_of bs))) (rest_is batches i batch lt is)
+stops NoMemory live most beginning state gate batches i batch total lt is h so_far = tt
+stops (Damaged place) live most beginning state gate batches i batch total lt is h so_far =
+    let one : with_beginning beginning (batches_of live most state gate (payloads_of (drop i batches))) ≡ Err place =
+    ap (λ (bs : List Payload). with_beginning beginning (batches_of live most state gate (payloads_of bs))) (rest_is batches i batch lt is)
     ∙ rw h refl in
     sym so_far ∙ one
 
-pub is_done : (live : List StorePrefix) (most : ℕ) (front : List Entry) (state : Numbers) (gate : ℕ) (batches : List Payload) (i : ℕ) (total : Result (List Entry × Numbers) ℕ)
-    → length batches ≤ i → with_front front (batches_of live most state gate (payloads_of (drop i batches))) ≡ total → total ≡ Ok (front, state)
+pub is_done : (live : List StorePrefix) (most : ℕ) (beginning : List Entry) (state : Numbers) (gate : ℕ) (batches : List Payload) (i : ℕ) (total : Result (List Entry × Numbers) ℕ)
+    → length batches ≤ i → with_beginning beginning (batches_of live most state gate (payloads_of (drop i batches))) ≡ total → total ≡ Ok (beginning, state)
 unfolding batches_of
-is_done live most front state gate batches i total le so_far =
-    let one : with_front front (batches_of live most state gate (payloads_of (drop i batches))) ≡ Ok (front, state) =
-    ap (λ (bs : List Payload). with_front front (batches_of live most state gate (payloads_of bs))) (drop_all i batches le)
-    ∙ ap (λ (es : List Entry). Ok (es, state)) (append-nil front) in
+is_done live most beginning state gate batches i total le so_far =
+    let one : with_beginning beginning (batches_of live most state gate (payloads_of (drop i batches))) ≡ Ok (beginning, state) =
+    ap (λ (bs : List Payload). with_beginning beginning (batches_of live most state gate (payloads_of bs))) (drop_all i batches le)
+    ∙ ap (λ (es : List Entry). Ok (es, state)) (append-nil beginning) in
     sym so_far ∙ one
 
 -- what the batches from one on take

@@ -34,40 +34,40 @@ end_of-push ws w =
     ap (λ (i : ℕ). option_map logged (slice_get (ws ++ w ∷ []) i)) k ∙ ap (option_map logged) (slice_get-push ws w)
 
 -- what was read before, and what is still read
-abbrev pub with_front : List Change → Result (List Change × List ℕ) ℕ → Result (List Change × List ℕ) ℕ
-with_front front read = read >>= λ x. Ok (front ++ x.0, x.1)
+abbrev pub with_beginning : List Change → Result (List Change × List ℕ) ℕ → Result (List Change × List ℕ) ℕ
+with_beginning beginning read = read >>= λ x. Ok (beginning ++ x.0, x.1)
 
-regroup : (front : List Change) (c : Change) (read : Result (List Change × List ℕ) ℕ)
-    → with_front front (read >>= λ x. Ok (c ∷ x.0, x.1)) ≡ with_front (front ++ c ∷ []) read
-regroup front c (Ok x) = ap (λ (cs : List Change). Ok (cs, x.1)) (simp append_assoc)
-regroup front c (Err f) = refl
+regroup : (beginning : List Change) (c : Change) (read : Result (List Change × List ℕ) ℕ)
+    → with_beginning beginning (read >>= λ x. Ok (c ∷ x.0, x.1)) ≡ with_beginning (beginning ++ c ∷ []) read
+regroup beginning c (Ok x) = ap (λ (cs : List Change). Ok (cs, x.1)) (simp append_assoc)
+regroup beginning c (Err f) = refl
 
-pub goes_on : (prefix_fits : ℕ → ℕ → Bool) (most : ℕ) (front : List Change) (last : Option Change) (count i : ℕ) (bytes : List ℕ) (c : Change) (after : List ℕ) (total : Result (List Change × List ℕ) ℕ)
+pub goes_on : (prefix_fits : ℕ → ℕ → Bool) (most : ℕ) (beginning : List Change) (last : Option Change) (count i : ℕ) (bytes : List ℕ) (c : Change) (after : List ℕ) (total : Result (List Change × List ℕ) ℕ)
     → i < count → change_of prefix_fits most last bytes ≡ Ok (c, after)
-    → with_front front (more_changes_of prefix_fits most last (count - i) bytes) ≡ total
-    → with_front (front ++ c ∷ []) (more_changes_of prefix_fits most (Some c) (count - (i + 1)) after) ≡ total
+    → with_beginning beginning (more_changes_of prefix_fits most last (count - i) bytes) ≡ total
+    → with_beginning (beginning ++ c ∷ []) (more_changes_of prefix_fits most (Some c) (count - (i + 1)) after) ≡ total
 unfolding more_changes_of
-goes_on prefix_fits most front last count i bytes c after total lt h so_far =
+goes_on prefix_fits most beginning last count i bytes c after total lt h so_far =
     let k : count - i ≡ suc (count - (i + 1)) = omega arith in
-    let one : with_front front (more_changes_of prefix_fits most last (count - i) bytes) ≡ with_front (front ++ c ∷ []) (more_changes_of prefix_fits most (Some c) (count - (i + 1)) after) =
-    rw (k, h) (regroup front c (more_changes_of prefix_fits most (Some c) (count - (i + 1)) after)) in
+    let one : with_beginning beginning (more_changes_of prefix_fits most last (count - i) bytes) ≡ with_beginning (beginning ++ c ∷ []) (more_changes_of prefix_fits most (Some c) (count - (i + 1)) after) =
+    rw (k, h) (regroup beginning c (more_changes_of prefix_fits most (Some c) (count - (i + 1)) after)) in
     sym one ∙ so_far
 
-pub stops : (e : Refusal) (prefix_fits : ℕ → ℕ → Bool) (most : ℕ) (front : List Change) (last : Option Change) (count i : ℕ) (bytes : List ℕ) (total : Result (List Change × List ℕ) ℕ)
+pub stops : (e : Refusal) (prefix_fits : ℕ → ℕ → Bool) (most : ℕ) (beginning : List Change) (last : Option Change) (count i : ℕ) (bytes : List ℕ) (total : Result (List Change × List ℕ) ℕ)
     → i < count → Fails e (change_of prefix_fits most last bytes)
-    → with_front front (more_changes_of prefix_fits most last (count - i) bytes) ≡ total → Fails e total
+    → with_beginning beginning (more_changes_of prefix_fits most last (count - i) bytes) ≡ total → Fails e total
 unfolding more_changes_of
-stops NoMemory prefix_fits most front last count i bytes total lt h so_far = tt
-stops (Left left) prefix_fits most front last count i bytes total lt h so_far =
+stops NoMemory prefix_fits most beginning last count i bytes total lt h so_far = tt
+stops (Left left) prefix_fits most beginning last count i bytes total lt h so_far =
     let k : count - i ≡ suc (count - (i + 1)) = omega arith in
-    let one : with_front front (more_changes_of prefix_fits most last (count - i) bytes) ≡ Err left = rw (k, h) refl in
+    let one : with_beginning beginning (more_changes_of prefix_fits most last (count - i) bytes) ≡ Err left = rw (k, h) refl in
     sym so_far ∙ one
 
-pub is_done : (prefix_fits : ℕ → ℕ → Bool) (most : ℕ) (front : List Change) (last : Option Change) (count i : ℕ) (bytes : List ℕ) (total : Result (List Change × List ℕ) ℕ)
-    → count ≤ i → with_front front (more_changes_of prefix_fits most last (count - i) bytes) ≡ total → total ≡ Ok (front, bytes)
+pub is_done : (prefix_fits : ℕ → ℕ → Bool) (most : ℕ) (beginning : List Change) (last : Option Change) (count i : ℕ) (bytes : List ℕ) (total : Result (List Change × List ℕ) ℕ)
+    → count ≤ i → with_beginning beginning (more_changes_of prefix_fits most last (count - i) bytes) ≡ total → total ≡ Ok (beginning, bytes)
 unfolding more_changes_of
-is_done prefix_fits most front last count i bytes total le so_far =
+is_done prefix_fits most beginning last count i bytes total le so_far =
     let k : count - i ≡ 0 = omega arith in
-    let one : with_front front (more_changes_of prefix_fits most last (count - i) bytes) ≡ Ok (front, bytes) =
-    rw k (ap (λ (cs : List Change). Ok (cs, bytes)) (append-nil front)) in
+    let one : with_beginning beginning (more_changes_of prefix_fits most last (count - i) bytes) ≡ Ok (beginning, bytes) =
+    rw k (ap (λ (cs : List Change). Ok (cs, bytes)) (append-nil beginning)) in
     sym so_far ∙ one

@@ -21,42 +21,42 @@ use Rattle.wal.specs.laws.Numbering.{all_charges}
 use Rattle.wal.specs.declared.live.StorePrefix.{StorePrefix}
 
 -- what was read before, and what is still read
-abbrev pub with_front : List Entry → Result ((List Entry × Numbers) × List ℕ) ℕ → Result ((List Entry × Numbers) × List ℕ) ℕ
-with_front front read = read >>= λ x. Ok ((front ++ x.0.0, x.0.1), x.1)
+abbrev pub with_beginning : List Entry → Result ((List Entry × Numbers) × List ℕ) ℕ → Result ((List Entry × Numbers) × List ℕ) ℕ
+with_beginning beginning read = read >>= λ x. Ok ((beginning ++ x.0.0, x.0.1), x.1)
 
-regroup : (front : List Entry) (e : Entry) (read : Result ((List Entry × Numbers) × List ℕ) ℕ)
-    → with_front front (read >>= λ x. Ok ((e ∷ x.0.0, x.0.1), x.1)) ≡ with_front (front ++ e ∷ []) read
-regroup front e (Ok x) = ap (λ (es : List Entry). Ok ((es, x.0.1), x.1)) (simp append_assoc)
-regroup front e (Err f) = refl
+regroup : (beginning : List Entry) (e : Entry) (read : Result ((List Entry × Numbers) × List ℕ) ℕ)
+    → with_beginning beginning (read >>= λ x. Ok ((e ∷ x.0.0, x.0.1), x.1)) ≡ with_beginning (beginning ++ e ∷ []) read
+regroup beginning e (Ok x) = ap (λ (es : List Entry). Ok ((es, x.0.1), x.1)) (simp append_assoc)
+regroup beginning e (Err f) = refl
 
-pub goes_on : (live : List StorePrefix) (most : ℕ) (front : List Entry) (state : Numbers) (count i : ℕ) (bytes : List ℕ) (e : Entry) (next : Numbers) (rest : List ℕ) (total : Result ((List Entry × Numbers) × List ℕ) ℕ)
+pub goes_on : (live : List StorePrefix) (most : ℕ) (beginning : List Entry) (state : Numbers) (count i : ℕ) (bytes : List ℕ) (e : Entry) (next : Numbers) (rest : List ℕ) (total : Result ((List Entry × Numbers) × List ℕ) ℕ)
     → i < count → entry_of (numbering live) most state bytes ≡ Ok ((e, next), rest)
-    → with_front front (entries_of (numbering live) most state (count - i) bytes) ≡ total
-    → with_front (front ++ e ∷ []) (entries_of (numbering live) most next (count - (i + 1)) rest) ≡ total
+    → with_beginning beginning (entries_of (numbering live) most state (count - i) bytes) ≡ total
+    → with_beginning (beginning ++ e ∷ []) (entries_of (numbering live) most next (count - (i + 1)) rest) ≡ total
 unfolding entries_of
-goes_on live most front state count i bytes e next rest total lt h so_far =
+goes_on live most beginning state count i bytes e next rest total lt h so_far =
     let k : count - i ≡ suc (count - (i + 1)) = omega arith in
-    let one : with_front front (entries_of (numbering live) most state (count - i) bytes) ≡ with_front (front ++ e ∷ []) (entries_of (numbering live) most next (count - (i + 1)) rest) =
-    rw (k, h) (regroup front e (entries_of (numbering live) most next (count - (i + 1)) rest)) in
+    let one : with_beginning beginning (entries_of (numbering live) most state (count - i) bytes) ≡ with_beginning (beginning ++ e ∷ []) (entries_of (numbering live) most next (count - (i + 1)) rest) =
+    rw (k, h) (regroup beginning e (entries_of (numbering live) most next (count - (i + 1)) rest)) in
     sym one ∙ so_far
 
-pub stops : (r : Refusal) (live : List StorePrefix) (most : ℕ) (front : List Entry) (state : Numbers) (count i : ℕ) (bytes : List ℕ) (total : Result ((List Entry × Numbers) × List ℕ) ℕ)
+pub stops : (r : Refusal) (live : List StorePrefix) (most : ℕ) (beginning : List Entry) (state : Numbers) (count i : ℕ) (bytes : List ℕ) (total : Result ((List Entry × Numbers) × List ℕ) ℕ)
     → i < count → Fails r (entry_of (numbering live) most state bytes)
-    → with_front front (entries_of (numbering live) most state (count - i) bytes) ≡ total → Fails r total
+    → with_beginning beginning (entries_of (numbering live) most state (count - i) bytes) ≡ total → Fails r total
 unfolding entries_of
-stops NoMemory live most front state count i bytes total lt h so_far = tt
-stops (Left left) live most front state count i bytes total lt h so_far =
+stops NoMemory live most beginning state count i bytes total lt h so_far = tt
+stops (Left left) live most beginning state count i bytes total lt h so_far =
     let k : count - i ≡ suc (count - (i + 1)) = omega arith in
-    let one : with_front front (entries_of (numbering live) most state (count - i) bytes) ≡ Err left = rw (k, h) refl in
+    let one : with_beginning beginning (entries_of (numbering live) most state (count - i) bytes) ≡ Err left = rw (k, h) refl in
     sym so_far ∙ one
 
-pub is_done : (live : List StorePrefix) (most : ℕ) (front : List Entry) (state : Numbers) (count i : ℕ) (bytes : List ℕ) (total : Result ((List Entry × Numbers) × List ℕ) ℕ)
-    → count ≤ i → with_front front (entries_of (numbering live) most state (count - i) bytes) ≡ total → total ≡ Ok ((front, state), bytes)
+pub is_done : (live : List StorePrefix) (most : ℕ) (beginning : List Entry) (state : Numbers) (count i : ℕ) (bytes : List ℕ) (total : Result ((List Entry × Numbers) × List ℕ) ℕ)
+    → count ≤ i → with_beginning beginning (entries_of (numbering live) most state (count - i) bytes) ≡ total → total ≡ Ok ((beginning, state), bytes)
 unfolding entries_of
-is_done live most front state count i bytes total le so_far =
+is_done live most beginning state count i bytes total le so_far =
     let k : count - i ≡ 0 = omega arith in
-    let one : with_front front (entries_of (numbering live) most state (count - i) bytes) ≡ Ok ((front, state), bytes) =
-    rw k (ap (λ (es : List Entry). Ok ((es, state), bytes)) (append-nil front)) in
+    let one : with_beginning beginning (entries_of (numbering live) most state (count - i) bytes) ≡ Ok ((beginning, state), bytes) =
+    rw k (ap (λ (es : List Entry). Ok ((es, state), bytes)) (append-nil beginning)) in
     sym so_far ∙ one
 
 -- ---- the room

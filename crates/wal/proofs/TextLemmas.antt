@@ -34,13 +34,13 @@ part_of {X} {Y} text f xs i x lt is =
     subst (λ (y : Y). length (text y) ≤ length (flat_map text (map f xs))) here part
 
 -- one element more is spelled
-pub one_more : {X Y : Type 0} (text : Y → List ℕ) (f : X → Y) (xs : List X) (i : ℕ) (x : X) (front old new : List ℕ) → i < length xs → get_or xs i x ≡ x
-    → old ≡ front ++ flat_map text (map f (take i xs)) → new ≡ old ++ text (f x) → new ≡ front ++ flat_map text (map f (take (i + 1) xs))
-one_more {X} {Y} text f xs i x front old new lt is so_far next =
+pub one_more : {X Y : Type 0} (text : Y → List ℕ) (f : X → Y) (xs : List X) (i : ℕ) (x : X) (beginning old new : List ℕ) → i < length xs → get_or xs i x ≡ x
+    → old ≡ beginning ++ flat_map text (map f (take i xs)) → new ≡ old ++ text (f x) → new ≡ beginning ++ flat_map text (map f (take (i + 1) xs))
+one_more {X} {Y} text f xs i x beginning old new lt is so_far next =
     let taken : map f (take (i + 1) xs) ≡ map f (take i xs) ++ f x ∷ [] =
     ap (λ (l : List X). map f l) (take_more xs i x lt ∙ ap (λ (y : X). take i xs ++ y ∷ []) is) ∙ map_push f (take i xs) x in
-    next ∙ ap (λ (l : List ℕ). l ++ text (f x)) so_far ∙ flat_map_more text front (map f (take i xs)) (f x)
-    ∙ ap (λ (l : List Y). front ++ flat_map text l) (sym taken)
+    next ∙ ap (λ (l : List ℕ). l ++ text (f x)) so_far ∙ flat_map_more text beginning (map f (take i xs)) (f x)
+    ∙ ap (λ (l : List Y). beginning ++ flat_map text l) (sym taken)
 
 pub change_some : (c : Change) → 1 ≤ length (change_text c)
 change_some c = omega arith
@@ -62,25 +62,25 @@ four_pieces start a b c d x y z w e f g h =
 
 -- bytes, and an entry with its head and its first changes behind them
 abbrev pub begun : List ℕ → ℕ → List Change → List Change → List ℕ
-begun front number all changes = front ++ (big_bytes 8 number ++ (big_bytes 4 (length all) ++ flat_map change_text changes))
+begun beginning number all changes = beginning ++ (big_bytes 8 number ++ (big_bytes 4 (length all) ++ flat_map change_text changes))
 
-regroup : (front a b c : List ℕ) → front ++ (a ++ (b ++ c)) ≡ (front ++ (a ++ b)) ++ c
-regroup front a b c = sym (append_assoc front (a ++ b) c ∙ ap (λ (l : List ℕ). front ++ l) (append_assoc a b c))
+regroup : (beginning a b c : List ℕ) → beginning ++ (a ++ (b ++ c)) ≡ (beginning ++ (a ++ b)) ++ c
+regroup beginning a b c = sym (append_assoc beginning (a ++ b) c ∙ ap (λ (l : List ℕ). beginning ++ l) (append_assoc a b c))
 
 -- one change more is put
-pub begun-more : (front : List ℕ) (number : ℕ) (all : List Change) (ws : List Write) (i : ℕ) (w : Write) (old new : List ℕ) → i < length ws
-    → get_or ws i w ≡ w → old ≡ begun front number all (logged_all (take i ws)) → new ≡ old ++ change_text (logged w)
-    → new ≡ begun front number all (logged_all (take (i + 1) ws))
-begun-more front number all ws i w old new lt is so_far next =
+pub begun-more : (beginning : List ℕ) (number : ℕ) (all : List Change) (ws : List Write) (i : ℕ) (w : Write) (old new : List ℕ) → i < length ws
+    → get_or ws i w ≡ w → old ≡ begun beginning number all (logged_all (take i ws)) → new ≡ old ++ change_text (logged w)
+    → new ≡ begun beginning number all (logged_all (take (i + 1) ws))
+begun-more beginning number all ws i w old new lt is so_far next =
     let head = big_bytes 8 number in
     let count = big_bytes 4 (length all) in
-    one_more change_text logged ws i w (front ++ (head ++ count)) old new lt is (so_far ∙ regroup front head count (flat_map change_text (logged_all (take i ws)))) next
-    ∙ sym (regroup front head count (flat_map change_text (logged_all (take (i + 1) ws))))
+    one_more change_text logged ws i w (beginning ++ (head ++ count)) old new lt is (so_far ∙ regroup beginning head count (flat_map change_text (logged_all (take i ws)))) next
+    ∙ sym (regroup beginning head count (flat_map change_text (logged_all (take (i + 1) ws))))
 
 -- what was put is cut off again
-pub cut_back : (front : List ℕ) (number : ℕ) (all changes : List Change) (bytes : List ℕ) → bytes ≡ begun front number all changes → take (length front) bytes ≡ front
-cut_back front number all changes bytes e =
-    ap (take (length front)) e ∙ take_at front (big_bytes 8 number ++ (big_bytes 4 (length all) ++ flat_map change_text changes)) (length front) refl
+pub cut_back : (beginning : List ℕ) (number : ℕ) (all changes : List Change) (bytes : List ℕ) → bytes ≡ begun beginning number all changes → take (length beginning) bytes ≡ beginning
+cut_back beginning number all changes bytes e =
+    ap (take (length beginning)) e ∙ take_at beginning (big_bytes 8 number ++ (big_bytes 4 (length all) ++ flat_map change_text changes)) (length beginning) refl
 
 -- ---- what the code spells
 

@@ -11,12 +11,12 @@ use Rattle.wal.specs.declared.live.StorePrefix.{StorePrefix}
 abbrev pub Reads : List StorePrefix → ℕ → Numbers → List (List ℕ) → List Entry × Numbers → Type 0
 Reads live most state payloads read = (gate : ℕ) → batches_of live most state gate payloads ≡ Ok read
 
--- what was read of a front of a segment's batches, and of the others behind it
-pub record IsFrontRead (live : List StorePrefix) (most : ℕ) (start : Numbers) (payloads others : List (List ℕ))
+-- what was read of the beginning of a segment's batches, and of the others behind it
+pub record IsBeginningRead (live : List StorePrefix) (most : ℕ) (start : Numbers) (payloads others : List (List ℕ))
     (entries : List Entry) (last : Numbers) : Type 0 where
-  pub front : List Entry
+  pub beginning : List Entry
   pub middle : Numbers
   pub behind : List Entry
-  pub front_read : (tail : Tail) → segment_of live most start payloads (Closed tail) ≡ Ok (front, middle)
+  pub beginning_read : (tail : Tail) → segment_of live most start payloads (Closed tail) ≡ Ok (beginning, middle)
   pub behind_read : Reads live most middle others (behind, last)
-  pub joined : entries ≡ front ++ behind
+  pub joined : entries ≡ beginning ++ behind

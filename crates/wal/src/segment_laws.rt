@@ -6,7 +6,7 @@ ghost use Rattle.gate_log.specs.declared.front.End.TheVariants.{Closed};
 ghost use Rattle.gate_log.specs.declared.region.Tail.{Tail as a_tail};
 ghost use Rattle.hse_fields.specs.LogReading.{payload_of};
 ghost use Rattle.hse_fields.specs.LogText.{Entry};
-ghost use Rattle.wal.specs.Batches.{IsFrontRead};
+ghost use Rattle.wal.specs.Batches.{IsBeginningRead};
 ghost use Rattle.wal.specs.Logged.{entries_of};
 ghost use Rattle.wal.specs.Numbering.{Numbers, numbering};
 ghost use Rattle.wal.specs.Replaying.{segment_of, IsRefused, IsSegment};
@@ -38,7 +38,7 @@ pub fn one_replay()
 {}
 
 /// A batch behind a segment's batches is read behind their entries; and of the batches of a segment
-/// that is read each front is read, and gives a front of its entries.
+/// that is read each beginning is read, and gives a beginning of its entries.
 pub fn one_batch_more()
     ensures more { (live : List a_prefix) (most : ℕ) (start : Numbers) (payloads : List (List ℕ))
         (tail other : a_tail) (entries : List Entry) (last : Numbers) (payload : List ℕ)
@@ -47,10 +47,10 @@ pub fn one_batch_more()
         → payload_of (numbering live) most last payload ≡ Ok (more, after)
         → segment_of live most start (payloads ++ payload ∷ []) (Closed other)
         ≡ Ok (entries ++ more, after) }
-    ensures front { (live : List a_prefix) (most : ℕ) (start : Numbers)
+    ensures beginning { (live : List a_prefix) (most : ℕ) (start : Numbers)
         (payloads others : List (List ℕ)) (end : an_end) (entries : List Entry) (last : Numbers)
         → segment_of live most start (payloads ++ others) end ≡ Ok (entries, last)
-        → IsFrontRead live most start payloads others entries last }
+        → IsBeginningRead live most start payloads others entries last }
 {}
 
 /// A segment is read the same by two lists of live stores by which the stores that its changes name

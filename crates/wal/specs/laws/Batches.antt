@@ -10,7 +10,7 @@ use Rattle.hse_fields.specs.LogText.{Entry}
 use Rattle.hse_fields.specs.LogReading.{◌>>=◌, payload_of, Follow}
 use Rattle.hse_fields.specs.laws.Fields.{bind_ok, ok_is}
 use Rattle.hse_fields.specs.laws.Follow.{payload_follows, follow-append}
-use Rattle.wal.specs.Batches.{Reads, IsFrontRead}
+use Rattle.wal.specs.Batches.{Reads, IsBeginningRead}
 use Rattle.wal.specs.Numbering.{Numbers, numbering}
 use Rattle.wal.specs.Replaying.{before, batches_of, ended, segment_of}
 use Rattle.wal.specs.declared.live.StorePrefix.{StorePrefix}
@@ -27,7 +27,7 @@ abbrev others_of : List StorePrefix → ℕ → ℕ → List (List ℕ) → List
 others_of live most gate payloads first =
     batches_of live most first.1 gate payloads >>= λ others. Ok (first.0 ++ others.0, others.1)
 
--- a batch in front of others
+-- a batch before others
 pub reads_first : (live : List StorePrefix) (most : ℕ) (state : Numbers) (payload : List ℕ) (payloads : List (List ℕ))
     (first others : List Entry × Numbers) → payload_of (numbering live) most state payload ≡ Ok first
     → Reads live most first.1 payloads others → Reads live most state (payload ∷ payloads) (first.0 ++ others.0, others.1)
@@ -81,11 +81,11 @@ reads_anywhere live most state gate (payload ∷ payloads) x e =
 -- batches behind others
 pub reads_behind : (live : List StorePrefix) (most : ℕ) (state : Numbers) (payloads others : List (List ℕ)) (x y : List Entry × Numbers)
     → Reads live most state payloads x → Reads live most x.1 others y → Reads live most state (payloads ++ others) (x.0 ++ y.0, y.1)
-reads_behind live most state [] others x y front behind =
-    let is = none_read live most state 9 x (front 9) in
+reads_behind live most state [] others x y beginning behind =
+    let is = none_read live most state 9 x (beginning 9) in
     subst (λ (z : List Entry × Numbers). Reads live most z.1 others y → Reads live most state others (z.0 ++ y.0, y.1)) is (λ more. more) behind
-reads_behind live most state (payload ∷ payloads) others x y front behind =
-    let f = first_of live most state 9 payload payloads x (front 9) in
+reads_behind live most state (payload ∷ payloads) others x y beginning behind =
+    let f = first_of live most state 9 payload payloads x (beginning 9) in
     let rest = reads_anywhere live most f.first.1 f.gate payloads f.others f.rest in
     let last : x.1 ≡ f.others.1 = ap (λ (z : List Entry × Numbers). z.1) f.is in
     let front_is : x.0 ≡ f.first.0 ++ f.others.0 = ap (λ (z : List Entry × Numbers). z.0) f.is in
@@ -95,23 +95,23 @@ reads_behind live most state (payload ∷ payloads) others x y front behind =
     subst (λ (es : List Entry). Reads live most state (payload ∷ (payloads ++ others)) (es, y.1)) joined
     (reads_first live most state payload (payloads ++ others) f.first (f.others.0 ++ y.0, y.1) f.read more)
 
--- what was read of a front, and of what stands behind it
+-- what was read of the beginning, and of what stands behind it
 pub record IsSplit (live : List StorePrefix) (most : ℕ) (state : Numbers) (payloads others : List (List ℕ))
     (x : List Entry × Numbers) : Type 0 where
-  pub front : List Entry
+  pub beginning : List Entry
   pub middle : Numbers
   pub behind : List Entry
-  pub front_read : Reads live most state payloads (front, middle)
+  pub beginning_read : Reads live most state payloads (beginning, middle)
   pub behind_read : Reads live most middle others (behind, x.1)
-  pub joined : x.0 ≡ front ++ behind
+  pub joined : x.0 ≡ beginning ++ behind
 
 pub reads_split : (live : List StorePrefix) (most : ℕ) (state : Numbers) (gate : ℕ) (payloads others : List (List ℕ)) (x : List Entry × Numbers)
     → batches_of live most state gate (payloads ++ others) ≡ Ok x → IsSplit live most state payloads others x
 reads_split live most state gate [] others x e = record {
-  front = [];
+  beginning = [];
   middle = state;
   behind = x.0;
-  front_read = reads_none live most state;
+  beginning_read = reads_none live most state;
   behind_read = reads_anywhere live most state gate others x e;
   joined = refl;
 }
@@ -121,12 +121,12 @@ reads_split live most state gate (payload ∷ payloads) others x e =
     let last : f.others.1 ≡ x.1 = sym (ap (λ (z : List Entry × Numbers). z.1) f.is) in
     let entries : x.0 ≡ f.first.0 ++ f.others.0 = ap (λ (z : List Entry × Numbers). z.0) f.is in
     record {
-      front = f.first.0 ++ rest.front;
+      beginning = f.first.0 ++ rest.beginning;
       middle = rest.middle;
       behind = rest.behind;
-      front_read = reads_first live most state payload payloads f.first (rest.front, rest.middle) f.read rest.front_read;
+      beginning_read = reads_first live most state payload payloads f.first (rest.beginning, rest.middle) f.read rest.beginning_read;
       behind_read = subst (λ (s : Numbers). Reads live most rest.middle others (rest.behind, s)) last rest.behind_read;
-      joined = entries ∙ ap (λ (es : List Entry). f.first.0 ++ es) rest.joined ∙ sym (append_assoc f.first.0 rest.front rest.behind);
+      joined = entries ∙ ap (λ (es : List Entry). f.first.0 ++ es) rest.joined ∙ sym (append_assoc f.first.0 rest.beginning rest.behind);
     }
 
 -- The entries of batches follow one another.
@@ -156,16 +156,16 @@ closed_read live most start payloads (CutOff place) x e =
     let a = bind_ok (batches_of live most start 9 payloads) (ended (CutOff place)) x e in
     absurd (no_ok place x a.2)
 
-pub front_is_read : (live : List StorePrefix) (most : ℕ) (start : Numbers) (payloads others : List (List ℕ)) (end : End)
+pub beginning_is_read : (live : List StorePrefix) (most : ℕ) (start : Numbers) (payloads others : List (List ℕ)) (end : End)
     (entries : List Entry) (last : Numbers) → segment_of live most start (payloads ++ others) end ≡ Ok (entries, last)
-    → IsFrontRead live most start payloads others entries last
-front_is_read live most start payloads others end entries last e =
+    → IsBeginningRead live most start payloads others entries last
+beginning_is_read live most start payloads others end entries last e =
     let s = reads_split live most start 9 payloads others (entries, last) (closed_read live most start (payloads ++ others) end (entries, last) e) in
     record {
-      front = s.front;
+      beginning = s.beginning;
       middle = s.middle;
       behind = s.behind;
-      front_read = λ tail. rw (s.front_read 9) refl;
+      beginning_read = λ tail. rw (s.beginning_read 9) refl;
       behind_read = s.behind_read;
       joined = s.joined;
     }
@@ -175,8 +175,8 @@ pub more_is_read : (live : List StorePrefix) (most : ℕ) (start : Numbers) (pay
     → payload_of (numbering live) most last payload ≡ Ok (more, after)
     → segment_of live most start (payloads ++ payload ∷ []) (Closed other) ≡ Ok (entries ++ more, after)
 more_is_read live most start payloads tail other entries last payload more after e f =
-    let front = reads_anywhere live most start 9 payloads (entries, last) (closed_read live most start payloads (Closed tail) (entries, last) e) in
+    let beginning = reads_anywhere live most start 9 payloads (entries, last) (closed_read live most start payloads (Closed tail) (entries, last) e) in
     let one : Reads live most last (payload ∷ []) (more, after) =
     subst (λ (es : List Entry). Reads live most last (payload ∷ []) (es, after)) (append-nil more)
     (reads_first live most last payload [] (more, after) ([], after) f (reads_none live most after)) in
-    rw (reads_behind live most start payloads (payload ∷ []) (entries, last) (more, after) front one 9) refl
+    rw (reads_behind live most start payloads (payload ∷ []) (entries, last) (more, after) beginning one 9) refl

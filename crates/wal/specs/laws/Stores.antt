@@ -88,22 +88,22 @@ segment_alike live other most start last payloads end entries alike e =
 -- ---- one store more
 
 -- a store that is listed changes nothing of the others
-fits_without : (front behind : List StorePrefix) (p : StorePrefix) (store size : ℕ) → store ≢ p.store.0
-    → prefix_fits (front ++ p ∷ behind) store size ≡ prefix_fits (front ++ behind) store size
+fits_without : (beginning behind : List StorePrefix) (p : StorePrefix) (store size : ℕ) → store ≢ p.store.0
+    → prefix_fits (beginning ++ p ∷ behind) store size ≡ prefix_fits (beginning ++ behind) store size
 fits_without [] behind p store size apart =
     let test : (p.store.0 == store) ≡ false = ne_eqb p.store.0 store (λ e. apart (sym e)) in
     rw test refl
-fits_without (q ∷ front) behind p store size apart =
-    ap (λ (b : Bool). cond (q.store.0 == store) (q.length == size) b) (fits_without front behind p store size apart)
+fits_without (q ∷ beginning) behind p store size apart =
+    ap (λ (b : Bool). cond (q.store.0 == store) (q.length == size) b) (fits_without beginning behind p store size apart)
 
-lacks_alike : (front behind : List StorePrefix) (p : StorePrefix) (entries : List Entry) → LacksStore p.store.0 entries
-    → OfEachStore (FitsAlike (front ++ p ∷ behind) (front ++ behind)) entries
-lacks_alike front behind p entries lacks =
+lacks_alike : (beginning behind : List StorePrefix) (p : StorePrefix) (entries : List Entry) → LacksStore p.store.0 entries
+    → OfEachStore (FitsAlike (beginning ++ p ∷ behind) (beginning ++ behind)) entries
+lacks_alike beginning behind p entries lacks =
     All-weaker (λ (e : Entry). All (λ (c : Change). c.store ≢ p.store.0) e.changes)
-    (λ (e : Entry). All (λ (c : Change). FitsAlike (front ++ p ∷ behind) (front ++ behind) c.store) e.changes)
+    (λ (e : Entry). All (λ (c : Change). FitsAlike (beginning ++ p ∷ behind) (beginning ++ behind) c.store) e.changes)
     (λ (e : Entry) (all : All (λ (c : Change). c.store ≢ p.store.0) e.changes). All-weaker (λ (c : Change). c.store ≢ p.store.0)
-    (λ (c : Change). FitsAlike (front ++ p ∷ behind) (front ++ behind) c.store)
-    (λ (c : Change) (apart : c.store ≢ p.store.0) (size : ℕ). fits_without front behind p c.store size apart) e.changes all)
+    (λ (c : Change). FitsAlike (beginning ++ p ∷ behind) (beginning ++ behind) c.store)
+    (λ (c : Change) (apart : c.store ≢ p.store.0) (size : ℕ). fits_without beginning behind p c.store size apart) e.changes all)
     entries lacks
 
 turned : (live other : List StorePrefix) (entries : List Entry) → OfEachStore (FitsAlike live other) entries → OfEachStore (FitsAlike other live) entries
@@ -116,16 +116,16 @@ turned live other entries alike =
     entries alike
 
 -- A segment is read the same with a store taken out that none of its changes names.
-pub segment_without : (front behind : List StorePrefix) (p : StorePrefix) (most : ℕ) (start last : Numbers) (payloads : List (List ℕ)) (end : End) (entries : List Entry)
-    → LacksStore p.store.0 entries → segment_of (front ++ p ∷ behind) most start payloads end ≡ Ok (entries, last)
-    → segment_of (front ++ behind) most start payloads end ≡ Ok (entries, last)
-segment_without front behind p most start last payloads end entries lacks e =
-    segment_alike (front ++ p ∷ behind) (front ++ behind) most start last payloads end entries (lacks_alike front behind p entries lacks) e
+pub segment_without : (beginning behind : List StorePrefix) (p : StorePrefix) (most : ℕ) (start last : Numbers) (payloads : List (List ℕ)) (end : End) (entries : List Entry)
+    → LacksStore p.store.0 entries → segment_of (beginning ++ p ∷ behind) most start payloads end ≡ Ok (entries, last)
+    → segment_of (beginning ++ behind) most start payloads end ≡ Ok (entries, last)
+segment_without beginning behind p most start last payloads end entries lacks e =
+    segment_alike (beginning ++ p ∷ behind) (beginning ++ behind) most start last payloads end entries (lacks_alike beginning behind p entries lacks) e
 
 -- And with one put in.
-pub segment_with : (front behind : List StorePrefix) (p : StorePrefix) (most : ℕ) (start last : Numbers) (payloads : List (List ℕ)) (end : End) (entries : List Entry)
-    → LacksStore p.store.0 entries → segment_of (front ++ behind) most start payloads end ≡ Ok (entries, last)
-    → segment_of (front ++ p ∷ behind) most start payloads end ≡ Ok (entries, last)
-segment_with front behind p most start last payloads end entries lacks e =
-    segment_alike (front ++ behind) (front ++ p ∷ behind) most start last payloads end entries
-    (turned (front ++ p ∷ behind) (front ++ behind) entries (lacks_alike front behind p entries lacks)) e
+pub segment_with : (beginning behind : List StorePrefix) (p : StorePrefix) (most : ℕ) (start last : Numbers) (payloads : List (List ℕ)) (end : End) (entries : List Entry)
+    → LacksStore p.store.0 entries → segment_of (beginning ++ behind) most start payloads end ≡ Ok (entries, last)
+    → segment_of (beginning ++ p ∷ behind) most start payloads end ≡ Ok (entries, last)
+segment_with beginning behind p most start last payloads end entries lacks e =
+    segment_alike (beginning ++ behind) (beginning ++ p ∷ behind) most start last payloads end entries
+    (turned (beginning ++ p ∷ behind) (beginning ++ behind) entries (lacks_alike beginning behind p entries lacks)) e

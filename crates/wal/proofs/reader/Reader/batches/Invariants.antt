@@ -6,12 +6,12 @@ use Rattle.wal.specs.Charges.{charges}
 use Rattle.wal.specs.Expected.{numbers_as}
 use Rattle.wal.specs.Logged.{entries_of}
 use Rattle.wal.specs.Replaying.{batches_of}
-use Rattle.wal.proofs.BatchesLoop.{with_front}
+use Rattle.wal.proofs.BatchesLoop.{with_beginning}
 use Rattle.wal.proofs.reader.Reader.batches.Given as goal
 
 abbrev pub invariant-loop-batch : goal.invariant-loop-batch
 invariant-loop-batch l = record {
-  read : with_front (entries_of l.commits.items) (batches_of l.self.live.now l.self.most (numbers_as l.expected) l.gate (payloads_of (drop l.batch-index l.batches)))
+  read : with_beginning (entries_of l.commits.items) (batches_of l.self.live.now l.self.most (numbers_as l.expected) l.gate (payloads_of (drop l.batch-index l.batches)))
       ≡ batches_of l.self.live.now l.self.most (numbers_as l.self.expected) 9 (payloads_of l.batches);
   tail : l.gate + sum_by need_of (payloads_of (drop l.batch-index l.batches)) ≡ tail_of (payloads_of l.batches);
   sized : l.gate ≤ 9 + charges (entries_of l.commits.items);
