@@ -68,7 +68,9 @@ fn a_file_is_made_at_the_first_call_and_kept_when_it_is_opened_again(
 }
 
 #[test]
-fn a_file_that_another_disk_has_open_is_refused_and_left_alone(rt: HostRuntime) -> Result<(), Fail> {
+fn a_file_that_another_disk_has_open_is_refused_and_left_alone(
+    rt: HostRuntime,
+) -> Result<(), Fail> {
     let alloc = rt.alloc();
     let folder = folder(&rt, "locked")?;
     let path = format!(in alloc; "{folder}/device")?;

@@ -170,18 +170,17 @@ static PUTS: [((usize, u8), (u64, u64), u64); 17] = [
 ];
 
 /// The same of the two prefix deletes.
-static PREFIXES: [((usize, u8), (u64, u64), u64); 12] = [
-    ((40, 1), (144, 1), 39), // one byte, where store 1 has two
-    ((38, 2), (144, 1), 39), // two bytes, where store 2 has three
+static PREFIXES: [((usize, u8), (u64, u64), u64); 11] = [
+    ((40, 1), (144, 1), 42), // one byte, which may be, and then an unknown kind
+    ((40, 3), (144, 1), 39), // three bytes, where store 1 has two
+    ((38, 2), (144, 1), 43), // two bytes, where store 2 has three, and then out of order
     ((40, 33), (144, 1), 39), // more than any prefix has
-    ((0, 0x4f), (144, 1), 43), // out of order, and of a wrong length
+    ((0, 0x4f), (144, 1), 43), // out of order
     ((53, 0), (144, 1), 43), // no byte at all, and so out of order
-    ((54, 0x63), (144, 1), 52), // of a wrong length
-    ((53, 3), (144, 1), 52), // of a wrong length, and cut off
+    ((53, 3), (144, 1), 52), // too long, and cut off
     ((53, 33), (144, 1), 52), // more than any prefix has, and cut off
     ((53, 2), (144, 1), 54), // cut off, and its first byte breaks the order
     ((54, 0x63), (132, 1), 18), // a charge of 69, and room for 68
-    ((54, 0x63), (133, 1), 52), // and room for 69
     ((0, 0x4f), (132, 1), 43), // out of order, so the charge is not known
 ];
 

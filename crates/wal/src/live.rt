@@ -7,7 +7,7 @@ ghost use Rattle.wal.specs.Live.{prefix_fits};
 use crate::kind::Kind;
 use hse_rows::StoreId;
 
-/// How many bytes a live store's prefix deletes have.
+/// The most bytes that a live store's prefix deletes have.
 #[derive(Clone, Copy, Debug, PartialEq, Eq)]
 pub struct StorePrefix {
     pub store: StoreId,
@@ -22,7 +22,7 @@ fn prefix_may(live: &[StorePrefix], store: u64, size: u64) -> bool
     let mut rest = live;
     while let [first, more @ ..] = rest {
         if first.store.0 == store {
-            return first.length as u64 == size;
+            return size <= first.length as u64;
         }
         rest = more;
     }

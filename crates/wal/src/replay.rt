@@ -20,7 +20,7 @@ const END: u64 = 64;
 /// store.
 ///
 /// `Damaged` has the place in the region of the first field that is refused: of the first batch
-/// that the log's text refuses, the length of a prefix delete's prefix that is not its live
+/// that the log's text refuses, the length of a prefix delete's prefix that is above its live
 /// store's, a commit's number that is not the next one or is above 2^62, a commit that takes more
 /// than the region's size less 64 leaves, at its number, or the length of a batch that does not lie
 /// inside the region. A commit that takes too much is refused before any length in its changes,

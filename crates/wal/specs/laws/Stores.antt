@@ -1,5 +1,5 @@
 -- What is read where some stores are live is read where others are, if the stores of the changes read are alike.
-use Rattle.std.specs.Prelude.{◌≡◌, ◌≢◌, ℕ, Bool, true, false, List, [], ◌∷◌, ◌++◌, Ok, ◌==◌}
+use Rattle.std.specs.Prelude.{◌≡◌, ◌≢◌, ℕ, Bool, true, false, List, [], ◌∷◌, ◌++◌, Ok, ◌==◌, nat_le}
 use Rattle.std.specs.List.{All, AllByRecursion}
 use Rattle.std.proofs.Common.{refl, sym, ap, subst, ◌∙◌, cond}
 use Rattle.std.proofs.lemmas.Bool.{ne_eqb}
@@ -94,7 +94,7 @@ fits_without [] behind p store size apart =
     let test : (p.store.0 == store) ≡ false = ne_eqb p.store.0 store (λ e. apart (sym e)) in
     rw test refl
 fits_without (q ∷ beginning) behind p store size apart =
-    ap (λ (b : Bool). cond (q.store.0 == store) (q.length == size) b) (fits_without beginning behind p store size apart)
+    ap (λ (b : Bool). cond (q.store.0 == store) (nat_le size q.length) b) (fits_without beginning behind p store size apart)
 
 lacks_alike : (beginning behind : List StorePrefix) (p : StorePrefix) (entries : List Entry) → LacksStore p.store.0 entries
     → OfEachStore (FitsAlike (beginning ++ p ∷ behind) (beginning ++ behind)) entries
