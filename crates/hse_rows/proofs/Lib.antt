@@ -37,3 +37,5 @@ pub mod RowCases
 pub mod CoreAnswers
 pub mod CoreLimits
 pub mod CoreRecords
+pub mod TurnLemmas
+pub mod ScriptGoes
