@@ -112,7 +112,7 @@ pub refused_keeps : (m : Core) (call : Call) → Keeps m (refused_to m call)
 refused_keeps m end_turn = ending_failed_keeps m m.turn
 refused_keeps m call = kept m
 
-failing_keeps : (m : Core) (call : Call) → Keeps m (failing m call)
+pub failing_keeps : (m : Core) (call : Call) → Keeps m (failing m call)
 failing_keeps m write_turn = record { timeline = refl; cursors = refl }
 failing_keeps m call = record { timeline = refl; cursors = refl }
 

@@ -38,3 +38,5 @@ pub mod CoreAnswers
 mod MeaningCases
 pub mod CoreLimits
 pub mod CoreRecords
+pub mod TurnLemmas
+pub mod ScriptGoes

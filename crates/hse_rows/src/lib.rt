@@ -12,6 +12,7 @@ mod places;
 mod prefix;
 mod row;
 mod row_set;
+mod script_laws;
 mod shared_bytes;
 mod store;
 mod value;
@@ -35,6 +36,7 @@ pub use normal_form::{charges_grow_by_the_change_at_most, normal_forms_are_in_or
 pub use prefix::{Prefix, PrefixFault};
 pub use row::{Row, RowRef};
 pub use row_set::{RowSet, Shared};
+pub use script_laws::{scripts_are_isolated, turns_are_one_step};
 pub use store::{Mode, StoreId};
 pub use value::{Value, ValueFault};
 pub use write::Write;

@@ -1,0 +1,31 @@
+-- The phases of a turn in a row.
+use Rattle.std.proofs.Common.{◌≡◌, true, Option, refl, sym, subst}
+use Rattle.hse_rows.specs.State.{Store}
+use Rattle.hse_rows.specs.Timeline.{for_some}
+use Rattle.hse_rows.specs.Moves as move
+use Rattle.hse_rows.specs.Turn.{dropping, removes}
+use Rattle.hse_rows.specs.Calls.{write_turn, end_turn}
+use Rattle.hse_rows.specs.Core.{Core, with_move}
+use Rattle.hse_rows.specs.ManifestEntry.{drop_entry, entered}
+use Rattle.hse_rows.specs.CoreDone.{done, failing, refused_to, with_turn}
+use Rattle.hse_rows.specs.ScriptLaws.{SyncsAreOneStep, CreationsAreOneStep, DropsAreOneStep}
+
+pub syncs : SyncsAreOneStep
+syncs m = (refl, refl)
+
+pub creations : CreationsAreOneStep
+creations m name mode prefix_length = (refl, refl)
+
+pub drops : DropsAreOneStep
+drops m name store is = (
+  subst (λ (it : Option Store). done (done (taken_for it) write_turn) end_turn ≡ done (done (one store) write_turn) end_turn) (sym is) refl,
+  subst
+      (λ (it : Option Store). refused_to (failing (taken_for it) write_turn) end_turn ≡ refused_to (failing (one store) write_turn) end_turn)
+      (sym is) refl,
+)
+  where
+    one : Store → Core
+    one s = with_turn (with_move m (move.remove s.id)) dropping (removes s.id (entered m (drop_entry m s))) true
+
+    taken_for : Option Store → Core
+    taken_for it = for_some it m one

@@ -1,0 +1,76 @@
+-- Laws of the script machine, each the clause of a function of `src/script_laws.rt`.
+use Rattle.std.specs.Prelude.{◌≡◌, ℕ, ◌-◌, true, List, [], ◌∷◌, Some}
+use Rattle.hse_rows.specs.declared.store.Mode.{Mode}
+use Rattle.hse_rows.specs.State.{Store, store_named}
+use Rattle.hse_rows.specs.Isolation.{IsIsolated, AreIsolated}
+use Rattle.hse_rows.specs.Moves as move
+use Rattle.hse_rows.specs.Turn.{sync, create, drop, home}
+use Rattle.hse_rows.specs.Replies.{Answer}
+use Rattle.hse_rows.specs.Core.{Core, Stored, life, blocks_in, now, number_of, with_move, layout_but}
+use Rattle.hse_rows.specs.ManifestEntry.{creation_entry, drop_entry, entered}
+use Rattle.hse_rows.specs.CoreStep.{Found}
+use Rattle.hse_rows.specs.ScriptLines.{Line}
+use Rattle.hse_rows.specs.Script.{Script, begins_with}
+use Rattle.hse_rows.specs.ScriptDone.{turned, turn_failed}
+use Rattle.hse_rows.specs.ScriptStep.{Step}
+
+-- ---- the phases of a turn in a row do what one step would
+
+-- A sync makes all safe. Where a device call fails nothing is, and the engine is broken.
+abbrev pub SyncsAreOneStep : Type 0
+SyncsAreOneStep =
+    (m : Core)
+    → (turned m sync ≡ record m { safe = number_of m; turn = home })
+    × (turn_failed m sync ≡ record m { is_broken = true; turn = home })
+
+-- a core with one move more, when all is safe
+abbrev pub SafeAfter : Core → Core
+SafeAfter m = record m { safe = number_of m; turn = home }
+
+-- A creation is an event, all up to it is safe, and the manifest has its entry. One that fails is an event.
+abbrev pub CreationsAreOneStep : Type 0
+CreationsAreOneStep =
+    (m : Core) (name : List ℕ) (mode : Mode) (prefix_length : ℕ)
+    → (turned m (create name mode prefix_length)
+    ≡ record (SafeAfter (with_move m (move.create name mode prefix_length))) {
+      manifest = entered m (creation_entry m name mode prefix_length);
+    })
+    × (turn_failed m (create name mode prefix_length)
+    ≡ record (with_move m (move.create name mode prefix_length)) { is_broken = true; turn = home })
+
+-- A drop likewise, and the sets of its store leave.
+abbrev pub DropsAreOneStep : Type 0
+DropsAreOneStep =
+    (m : Core) (name : List ℕ) (store : Store) → store_named (now m) name ≡ Some store
+    → (turned m (drop name)
+    ≡ record (SafeAfter (with_move m (move.remove store.id))) {
+      manifest = entered m (drop_entry m store);
+      layout = layout_but m.layout store.id;
+      used_slots = m.used_slots - (blocks_in m.layout - blocks_in (layout_but m.layout store.id));
+    })
+    × (turn_failed m (drop name) ≡ record (with_move m (move.remove store.id)) { is_broken = true; turn = home })
+
+-- ---- snapshot isolation of scripts
+
+-- a line, what it was answered, and what the device had for an opening
+pub record Entry : Type 0 where
+  pub found : Found
+  pub line : Line
+  pub answer : Answer (List ℕ)
+
+-- From old these entries, one after another, lead to new.
+abbrev pub Run : Script → List Entry → Script → Type 0
+Run old [] new = new ≡ old
+Run old (entry ∷ entries) new =
+    (mid : Script) × Step entry.found old entry.line entry.answer mid × Run mid entries new
+
+abbrev pub LinesKeepIsolated : Type 0
+LinesKeepIsolated =
+    (found : Found) (old new : Script) (line : Line) (answer : Answer (List ℕ))
+    → IsIsolated old.core.timeline → Step found old line answer new → IsIsolated new.core.timeline
+
+-- In every script no two transactions that each began before the other's commit both committed overlapping writes.
+abbrev pub ScriptsAreIsolated : Type 0
+ScriptsAreIsolated =
+    (stored : Stored) (entries : List Entry) (new : Script)
+    → Run (begins_with (life stored)) entries new → AreIsolated new.core.timeline
