@@ -1,6 +1,7 @@
 -- Commits as the log spells them.
 use Rattle.std.specs.Prelude.{ℕ, ◌+◌, List, [], length, map, Option, Some, None}
 use Rattle.std.specs.Borrow.{Bor}
+use Rattle.hse_fields.specs.LogLimits.{frame}
 use Rattle.hse_fields.specs.LogText as log
 use Rattle.hse_rows.specs.declared.change.Change.{Change}
 use Rattle.hse_rows.specs.declared.change.Change.TheVariants.{Put, Del, PDel}
@@ -24,9 +25,9 @@ entry_of c = record { number = c.number; changes = logged_all c.writes }
 abbrev pub entries_of : List Commit → List log.Entry
 entries_of commits = map entry_of commits
 
--- what an entry takes of a segment's room: its bytes, and 32
+-- what an entry takes of a segment's room: its bytes, and its frame
 abbrev pub charge : log.Entry → ℕ
-charge e = length (log.entry_text e) + 32
+charge e = length (log.entry_text e) + frame
 
 -- the last change of those that were read, if there is one
 abbrev pub last_of : Option (Bor Write) → Option log.Change

@@ -1,5 +1,6 @@
 -- What a segment's region says.
 use Rattle.std.specs.Prelude.{◌≡◌, ℕ, ◌+◌, ◌-◌, List, [], ◌∷◌, ◌++◌, Result, Ok, Err}
+use Rattle.gate_log.specs.Gates.{first_gate}
 use Rattle.gate_log.specs.Places.{need_of}
 use Rattle.gate_log.specs.Reading.{Ends}
 use Rattle.gate_log.specs.declared.front.End.{End}
@@ -34,7 +35,7 @@ ended (Closed tail) read = Ok read
 ended (CutOff place) read = Err place
 
 abbrev pub segment_of : List StorePrefix → ℕ → Numbers → List (List ℕ) → End → Result (List Entry × Numbers) ℕ
-segment_of live most start payloads end = batches_of live most start 9 payloads >>= ended end
+segment_of live most start payloads end = batches_of live most start first_gate payloads >>= ended end
 
 -- what is known before the first entry of a segment in a region of this size: 64 bytes are no room
 abbrev pub starting : ℕ → List ℕ → ℕ → Numbers

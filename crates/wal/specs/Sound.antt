@@ -19,14 +19,14 @@ pub record IsSound (size first : ℕ) (taken : List ℕ) (live : List StorePrefi
   pub sequence : segment.sequence ≡ front.sequence
   -- its gate stands behind the batches, inside the region
   pub closed : front.end ≡ Closed segment.tail
-  pub behind : segment.tail.gate ≡ tail_of (payloads_of front.batches.items)
-  pub inside : segment.tail.gate < size
+  pub behind : segment.tail.place ≡ tail_of (payloads_of front.batches.items)
+  pub inside : segment.tail.place < size
   -- the commits' charges fit, and each takes at least 44 bytes
   pub charged : segment.charges ≡ charges (entries_of segment.commits.items)
   pub fits : segment.charges ≤ size - 64
   pub counted : 44 * length segment.commits.items ≤ segment.charges
   -- the batches take no more than 9 bytes beside the charges: an entry is charged 32 bytes more than it takes
-  pub placed : segment.tail.gate ≤ 9 + segment.charges
+  pub placed : segment.tail.place ≤ 9 + segment.charges
   -- no number is above the greatest one
   pub numbers : All (λ (c : Commit). c.number ≤ last_number) segment.commits.items
   pub small : segment.next ≤ last_number + 1

@@ -1,5 +1,6 @@
 //! Reads the commits of a segment's batches.
 ghost use Rattle.std.specs.Prelude.{◌≡◌, ◌+◌, ◌≤◌, ◌<◌, ◌^◌, length, IfOk};
+ghost use Rattle.gate_log.specs.Gates.{first_gate};
 ghost use Rattle.gate_log.specs.Places.{need_of, tail_of};
 ghost use Rattle.gate_log.specs.Reading.{payloads_of};
 ghost use Rattle.hse_fields.specs.LogReading.{payload_of};
@@ -14,13 +15,7 @@ use crate::expected::Expected;
 use crate::reader::{Reader, are_bytes};
 use crate::refusal::Refusal;
 use crate::{Commit, SegmentFault};
-use gate_log::Payload;
-
-/// Where the gate of a region's first batch stands.
-const FIRST_GATE: u64 = 9;
-
-/// What a batch takes beside its payload: its gate and its length.
-const FRAME: u64 = 5;
+use gate_log::{FIRST_GATE, FRAME_SIZE, Payload};
 
 impl<'b, 'a> Reader<'b, 'a> {
     /// The commits of a batch that ends at this place of its region, and what may come after them.
@@ -45,17 +40,17 @@ impl<'b, 'a> Reader<'b, 'a> {
     ) -> Result<(Vec<Commit>, Expected<'a>), SegmentFault>
         requires { tail_of (payloads_of batches.now) < 2 ^ 64 }
         ensures gives { Tells (λ x. (entries_of x.0.items, numbers_as x.1)) result
-            (batches_of self.entry.live.now self.entry.most (numbers_as self.entry.expected) 9
+            (batches_of self.entry.live.now self.entry.most (numbers_as self.entry.expected) first_gate
             (payloads_of batches.now)) }
-        // The batches take no more than the charges; 9 bytes stand before the first of them.
+        // The batches take no more than the charges; the sequence stands before the first of them.
         ensures sized { IfOk result (λ x. tail_of (payloads_of batches.now)
-            ≤ 9 + charges (entries_of x.0.items)) }
+            ≤ first_gate + charges (entries_of x.0.items)) }
     {
         let mut commits = Vec::new(self.alloc);
         let mut expected = self.expected;
         let mut gate = FIRST_GATE;
         for batch in batches {
-            let end = gate + FRAME + batch.bytes.len() as u64;
+            let end = gate + FRAME_SIZE + batch.bytes.len() as u64;
             let reader = Reader {
                 bytes: &batch.bytes,
                 expected,

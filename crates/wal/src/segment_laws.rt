@@ -1,6 +1,6 @@
 //! Laws of segments. These functions do nothing; their contracts are the laws.
 ghost use Rattle.std.specs.Prelude.{◌≡◌, ◌+◌, ◌++◌, ◌∷◌, [], ℕ, List, Ok};
-ghost use Rattle.gate_log.specs.Gates.{IsShut};
+ghost use Rattle.gate_log.specs.Gates.{IsClosed};
 ghost use Rattle.gate_log.specs.declared.front.End.{End as an_end};
 ghost use Rattle.gate_log.specs.declared.front.End.TheVariants.{Closed};
 ghost use Rattle.gate_log.specs.declared.region.Tail.{Tail as a_tail};
@@ -29,10 +29,10 @@ pub fn one_replay()
     ensures segment_not_refused { (region : List ℕ) (live : List a_prefix) (most : ℕ)
         (start : Numbers) (segment : a_segment) (place : ℕ)
         → IsSegment region live most start segment → IsRefused region live most start place → ⊥ }
-    ensures segment_not_shut { (region : List ℕ) (live : List a_prefix) (most : ℕ) (start : Numbers)
-        (segment : a_segment) → IsSegment region live most start segment → IsShut region → ⊥ }
-    ensures refused_not_shut { (region : List ℕ) (live : List a_prefix) (most : ℕ) (start : Numbers)
-        (place : ℕ) → IsRefused region live most start place → IsShut region → ⊥ }
+    ensures segment_not_closed { (region : List ℕ) (live : List a_prefix) (most : ℕ) (start : Numbers)
+        (segment : a_segment) → IsSegment region live most start segment → IsClosed region → ⊥ }
+    ensures refused_not_closed { (region : List ℕ) (live : List a_prefix) (most : ℕ) (start : Numbers)
+        (place : ℕ) → IsRefused region live most start place → IsClosed region → ⊥ }
 {}
 
 /// A batch behind a segment's batches is read behind their entries; and of the batches of a segment

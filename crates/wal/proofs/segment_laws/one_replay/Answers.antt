@@ -1,5 +1,5 @@
 use Rattle.std.proofs.Common.{◌≡◌, ◌∙◌, ℕ, List, Result, Ok, Err, ap, sym}
-use Rattle.gate_log.specs.OneFront.{one_front, front_not_shut}
+use Rattle.gate_log.specs.laws.OneFront.{one_front, front_not_closed}
 use Rattle.gate_log.specs.declared.front.End.TheVariants.{Closed}
 use Rattle.gate_log.specs.declared.region.Tail.{Tail}
 use Rattle.hse_fields.specs.LogText.{Entry}
@@ -49,10 +49,10 @@ returns-clause-segment_not_refused c = λ region live most start segment place f
     not_both (entries_of segment.commits.items, first.last) place (segment_of live most start first.payloads (Closed segment.tail)) (segment_of live most start second.payloads second.end)
     (λ i. segment_of live most start (same.1 i) (same.2 i)) first.read second.refused
 
-pub returns-clause-segment_not_shut : goal.returns-clause-segment_not_shut
-returns-clause-segment_not_shut c = λ region live most start segment first shut.
-    front_not_shut region segment.sequence first.payloads (Closed segment.tail) first.ends shut
+pub returns-clause-segment_not_closed : goal.returns-clause-segment_not_closed
+returns-clause-segment_not_closed c = λ region live most start segment first shut.
+    front_not_closed region segment.sequence first.payloads (Closed segment.tail) first.ends shut
 
-pub returns-clause-refused_not_shut : goal.returns-clause-refused_not_shut
-returns-clause-refused_not_shut c = λ region live most start place first shut.
-    front_not_shut region first.sequence first.payloads first.end first.ends shut
+pub returns-clause-refused_not_closed : goal.returns-clause-refused_not_closed
+returns-clause-refused_not_closed c = λ region live most start place first shut.
+    front_not_closed region first.sequence first.payloads first.end first.ends shut
