@@ -44,8 +44,8 @@ fn finds_both(
 fn a_stop_at_any_call_of_a_sync_leaves_both_commits_or_none(rt: HostRuntime) -> Result<(), Fail> {
     let alloc = rt.alloc();
     let mut found = [0u32; 2];
-    // The opening takes nine calls, and the sync four.
-    for call in 9..13 {
+    // The opening takes eight calls, and the sync four.
+    for call in 8..12 {
         for fill in FILLS {
             let mut disk = MemDisk::new(alloc);
             disk.fail_from(call);

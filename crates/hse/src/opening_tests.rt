@@ -286,8 +286,8 @@ fn each_mark_has_the_clock_of_the_sync_before_it(rt: HostRuntime) -> Result<(), 
     )?;
     let lines = b"opened 1\nok 2\nok 2\nok 2\nok 3\nclosed 3\n";
     wrote(&rt, &ran, Status::Done, lines.as_slice());
-    // The opening takes nine calls, a batch four, and a sync of nothing none.
-    let wanted = [(1, 9), (2, 13), (2, 13), (3, 17)];
+    // The opening takes eight calls, a batch four, and a sync of nothing none.
+    let wanted = [(1, 8), (2, 12), (2, 12), (3, 16)];
     assert_eq!(rt; ran.marks.len(), wanted.len());
     for (mark, (number, moment)) in ran.marks.iter().zip(wanted) {
         assert_eq!(rt; mark.life, 0);

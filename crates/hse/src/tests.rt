@@ -86,7 +86,7 @@ fn a_put_and_a_deletion_are_stored_in_one_batch(rt: HostRuntime) -> Result<(), F
     assert!(rt; disk.bytes().starts_with(region.as_slice()));
     assert_eq!(rt; disk.bytes().len(), 4_194_304);
     assert_eq!(rt; disk.refused(), 0);
-    assert_eq!(rt; disk.calls().len(), 13);
+    assert_eq!(rt; disk.calls().len(), 12);
     Ok(())
 }
 
@@ -287,11 +287,11 @@ fn fails_at(
 #[test]
 fn each_device_call_that_fails_ends_the_run(rt: HostRuntime) -> Result<(), Fail> {
     let alloc = rt.alloc();
-    // The opening takes nine calls, and a batch four.
-    for call in 0..9 {
+    // The opening takes eight calls, and a batch four.
+    for call in 0..8 {
         fails_at(&rt, alloc, SCRIPT, call, b"fault device\n".as_slice())?;
     }
-    for call in 9..13 {
+    for call in 8..12 {
         let lines = replies(alloc, 5, b"fault device\n")?;
         fails_at(&rt, alloc, SCRIPT, call, &lines)?;
         // Where no line is a sync, the end of the script writes the batch.
@@ -394,6 +394,6 @@ fn a_run_that_gets_no_memory_tells_it(rt: HostRuntime) -> Result<(), Fail> {
     // With memory again the same objects are of use.
     let outcome = top(alloc, &words, &mut source, &mut sink, &mut disk);
     assert!(rt; outcome.status == Status::Done);
-    assert_eq!(rt; disk.calls().len(), 13);
+    assert_eq!(rt; disk.calls().len(), 12);
     Ok(())
 }

@@ -67,21 +67,19 @@ pub fn top<S: Source, K: Sink, D: Disk>(
         (K.contents sink.old) (K.contents sink.new) (status_text Status.Usage) }
 
     // For `run` the outcome, what is written and the device are those of the script's run, by its status.
-    ensures run { AsksRun (map string_bytes words.now) → Ends D.Disk result.status
+    ensures run { AsksRun (map string_bytes words.now) → Ends D.Device result.status
         (record { device = disk.old; input = S.remaining source.old; held = K.contents sink.old })
         (S.remaining source.new) (K.contents sink.new) (K.faults sink.old) (K.faults sink.new) disk.new result.marks.items }
     ensures read { result.status ≡ Status.ReadFault → Rose (S.faults source.old) (S.faults source.new) }
     ensures write { result.status ≡ Status.WriteFault → Rose (K.faults sink.old) (K.faults sink.new) }
     ensures device { result.status ≡ Status.DeviceFault → Rose (D.faults disk.old) (D.faults disk.new) }
-    ensures at_once { D.faults disk.old < D.faults disk.new → result.status ≡ Status.DeviceFault }
-    ensures last { result.status ≡ Status.DeviceFault → D.failed_at disk.new ≡ D.moment disk.new }
     ensures complete { AsksRun (map string_bytes words.now)
         → D.tells → IsGoodImage (D.seen disk.old) → IsGoodInput (S.remaining source.old)
         → ¬ Rose (S.faults source.old) (S.faults source.new) → ¬ Rose (K.faults sink.old) (K.faults sink.new)
         → ¬ Rose (D.faults disk.old) (D.faults disk.new)
         → (result.status ≡ Status.Done) ⊎ (result.status ≡ Status.NoMemory) }
     // Without a mark a device that held something stays as it was; for other words there is none.
-    ensures kept { result.marks.items ≡ [] → WasEmptyOrStays D.Disk disk.old disk.new }
+    ensures kept { result.marks.items ≡ [] → WasEmptyOrStays D.Device disk.old disk.new }
     ensures usage_marks { result.status ≡ Status.Usage → result.marks.items ≡ [] }
 {
     if !asks_run(words) {

@@ -3,7 +3,7 @@ use Rattle.std.proofs.Common.{◌≡◌, ℕ, List, Option, subst, inr}
 use Rattle.hse_io.specs.declared.outcome.Mark.{Mark}
 use Rattle.hse_io.specs.declared.outcome.Status.{Status}
 use Rattle.hse_io.specs.declared.outcome.Status.TheVariants as status
-use Rattle.media_disk.specs.declared.disk.Disk.{Ghosts}
+use Rattle.media_disk.specs.declared.device.Device.{Ghosts}
 use Rattle.hse_shell.specs.Machine.{Machine, number_of, flushed, all_synced}
 use Rattle.hse_shell.specs.Marks.{Marked}
 use Rattle.hse_shell.specs.Logged.{Serves}

@@ -5,12 +5,12 @@ use Rattle.std.specs.List.{AllByRecursion}
 use Rattle.std.proofs.lemmas.List.Sums.{sum_by-append}
 use Rattle.hse_io.specs.Faults.{Rose}
 use Rattle.hse_io.specs.Lines.{lines_of, first_line, after_line}
-use Rattle.hse_io.specs.LinesLaw.{lines_of-first}
+use Rattle.hse_io.specs.laws.Lines.{lines_of-first}
 use Rattle.hse_io.specs.Longest.{longest_line}
 use Rattle.hse_io.specs.declared.outcome.Mark.{Mark}
 use Rattle.hse_io.specs.declared.outcome.Status.{Status}
 use Rattle.hse_io.specs.declared.outcome.Status.TheVariants as status
-use Rattle.media_disk.specs.declared.disk.Disk.{Ghosts}
+use Rattle.media_disk.specs.declared.device.Device.{Ghosts}
 use Rattle.hse_shell.specs.Ending.{status_text, AppendsOrFails}
 use Rattle.hse_shell.specs.Ends.{EndsTold, Ends, IsGoodInput, IsGoodImage, WroteFront, of_opening, of_reply, of_closing, DeviceFails, at_opening, at_line, at_closing, MemoryFails, before_opening, for_opening, for_line, for_closing}
 use Rattle.hse_shell.specs.Logged.{WasEmptyOrStays}

@@ -1,8 +1,8 @@
 -- An image stores one thing, or is refused at one place.
 use Rattle.std.proofs.Common.{◌≡◌, inl, inr, ℕ, ◌<◌, List, [], length, Result, refl, sym, ap, subst, ◌∙◌, arith}
 use Rattle.std.specs.Prelude.{Ok, Err}
-use Rattle.gate_log.specs.OneFront.{one_front, front_not_shut}
-use Rattle.gate_log.specs.OneReading.{one_gated}
+use Rattle.gate_log.specs.laws.OneFront.{one_front, front_not_closed}
+use Rattle.gate_log.specs.laws.OneReading.{one_gated}
 use Rattle.gate_log.specs.Places.{region_of}
 use Rattle.gate_log.specs.declared.front.End.{End}
 use Rattle.hse_fields.specs.LogText as log
@@ -67,19 +67,19 @@ one_refusal image place elsewhere (of_size some long is) (of_batches sequence pa
 one_refusal image place elsewhere (of_head size shut is) (of_size some long is') = absurd (long size)
 one_refusal image place elsewhere (of_head size shut is) (of_head size' shut' is') = is ∙ sym is'
 one_refusal image place elsewhere (of_head size shut is) (of_sequence sequence payloads end size' ends none is') =
-    absurd (front_not_shut (region_of log_region image) sequence payloads end ends shut)
+    absurd (front_not_closed (region_of log_region image) sequence payloads end ends shut)
 one_refusal image place elsewhere (of_head size shut is) (of_batches sequence payloads end size' ends of_log refused) =
-    absurd (front_not_shut (region_of log_region image) sequence payloads end ends shut)
+    absurd (front_not_closed (region_of log_region image) sequence payloads end ends shut)
 one_refusal image place elsewhere (of_sequence sequence payloads end size ends none is) (of_size some long is') = absurd (long size)
 one_refusal image place elsewhere (of_sequence sequence payloads end size ends none is) (of_head size' shut is') =
-    absurd (front_not_shut (region_of log_region image) sequence payloads end ends shut)
+    absurd (front_not_closed (region_of log_region image) sequence payloads end ends shut)
 one_refusal image place elsewhere (of_sequence sequence payloads end size ends none is) (of_sequence other others ending size' ends' none' is') = is ∙ sym is'
 one_refusal image place elsewhere (of_sequence sequence payloads end size ends none is) (of_batches other others ending size' ends' of_log refused) =
     let same = one_front (region_of log_region image) sequence other payloads others end ending ends ends' in
     absurd (none (subst IsLogSequence (sym same.0) of_log))
 one_refusal image place elsewhere (of_batches sequence payloads end size ends of_log refused) (of_size some long is') = absurd (long size)
 one_refusal image place elsewhere (of_batches sequence payloads end size ends of_log refused) (of_head size' shut is') =
-    absurd (front_not_shut (region_of log_region image) sequence payloads end ends shut)
+    absurd (front_not_closed (region_of log_region image) sequence payloads end ends shut)
 one_refusal image place elsewhere (of_batches sequence payloads end size ends of_log refused) (of_sequence other others ending size' ends' none is') =
     let same = one_front (region_of log_region image) sequence other payloads others end ending ends ends' in
     absurd (none (subst IsLogSequence same.0 of_log))
@@ -91,7 +91,7 @@ one_refusal image place elsewhere (of_batches sequence payloads end size ends of
 loads_not_refused : (image : List ℕ) (entries : List log.Entry) (place : ℕ) → Loads image entries → IsRefusedAt image place → ⊥
 loads_not_refused image entries place l (of_size some long is) = long l.as_long
 loads_not_refused image entries place l (of_head size shut is) =
-    front_not_shut (region_of log_region image) l.sequence l.payloads (closed_behind l.payloads) (l.gated, refl) shut
+    front_not_closed (region_of log_region image) l.sequence l.payloads (closed_behind l.payloads) (l.gated, refl) shut
 loads_not_refused image entries place l (of_sequence sequence payloads end size ends none is) =
     let same = one_front (region_of log_region image) l.sequence sequence l.payloads payloads (closed_behind l.payloads) end (l.gated, refl) ends in
     none (subst IsLogSequence same.0 l.of_log)

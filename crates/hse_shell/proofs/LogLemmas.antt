@@ -1,12 +1,11 @@
 -- The log and the marks after a flush, and after a new mark.
-use Rattle.std.proofs.Common.{◌≡◌, ◌≢◌, ℕ, ◌+◌, ◌≤◌, List, [], ◌∷◌, ◌++◌, length, drop, sym, ap, subst, ◌∙◌, arith, inl, inr}
+use Rattle.std.proofs.Common.{◌≡◌, ◌≢◌, ◌⊎◌, ℕ, ◌+◌, ◌≤◌, List, [], ◌∷◌, ◌++◌, length, drop, sym, ap, subst, ◌∙◌, arith, inl, inr}
 use Rattle.std.specs.List.{AllByRecursion}
 use Rattle.std.proofs.lemmas.List.Sums.{sum_by_push}
 use Rattle.byteorder.specs.Endian.{big_bytes}
 use Rattle.hse_io.specs.declared.outcome.Mark.{Mark}
-use Rattle.media_disk.specs.Images.{IsImage}
-use Rattle.media_disk.specs.Leaves.{Leaves}
-use Rattle.media_disk.specs.declared.disk.Disk.{Ghosts}
+use Rattle.media_disk.specs.Images.{IsImage, CountsNow, OnlyNow}
+use Rattle.media_disk.specs.declared.device.Device.{Ghosts}
 use Rattle.gate_log.specs.Gates.{Gated}
 use Rattle.gate_log.specs.Places.{region_of, need_of}
 use Rattle.gate_log.specs.Crashes.{IsWithin, OldOrNew}
@@ -17,7 +16,7 @@ use Rattle.hse_shell.specs.Stored.{Stores, device_size, log_region}
 use Rattle.hse_shell.specs.Marks.{StoresPrefix, IsMark, AreMarks, Marked, mark_of}
 use Rattle.hse_shell.specs.Logged.{Logged, Serves}
 use Rattle.hse_shell.specs.declared.engine.Engine.{Engine}
-use Rattle.hse_shell.proofs.MarkLemmas.{CountsNow, all_push, marks_push, marked}
+use Rattle.hse_shell.proofs.MarkLemmas.{all_push, marks_push, marked}
 use Rattle.hse_shell.proofs.ReadingLemmas.{stores_all}
 
 module _ (m : Machine) (whole : m.synced ≤ length m.history) (within : charges_until m ≤ room) (numbers : number_of m ≤ 1 + charges_until m)
@@ -34,11 +33,12 @@ module _ (m : Machine) (whole : m.synced ≤ length m.history) (within : charges
 
   module _ (could since : ℕ → List ℕ → Type 0) (before now : ℕ) (seen : List ℕ) (pending : List (ℕ × ℕ)) (gate : ℕ)
       (l : Logged seen pending gate m)
-      (leaves : Leaves before could since (λ image. IsWithin log_region (IsImage seen pending) image × OldOrNew (region_of log_region image) l.stores.loads.sequence l.stores.loads.payloads payload))
+      (leaves : (clock : ℕ) (image : List ℕ) → clock ≤ before → since clock image
+      → could clock image ⊎ (IsWithin log_region (IsImage seen pending) image × OldOrNew l.stores.loads.sequence l.stores.loads.payloads payload (region_of log_region image)))
       (later : before ≤ now) where
     -- within the flush a crash leaves the old batches, or them and the new one
     left : (number : ℕ) → number ≤ m.base.number + m.synced → (image : List ℕ)
-        → IsWithin log_region (IsImage seen pending) image × OldOrNew (region_of log_region image) l.stores.loads.sequence l.stores.loads.payloads payload
+        → IsWithin log_region (IsImage seen pending) image × OldOrNew l.stores.loads.sequence l.stores.loads.payloads payload (region_of log_region image)
         → StoresPrefix m number image
     left number safe image (torn, old_or_new) =
         let was : torn.old ≡ seen = subst (λ (ranges : List (ℕ × ℕ)). IsImage seen ranges torn.old) l.durable torn.was in
@@ -142,10 +142,6 @@ all_noted could now seen pending gate m all l only number is marks held =
     all_push (IsMark could now (noted m)) marks (mark_of number now) (noted_marks could now m marks held)
     (noted_mark could now m (mark_of number now) (safe_mark could now seen pending gate m all l only number is))
 
--- the law of a disk that since now there is no other moment
-abbrev pub OnlyNow : {D : Type 0} → Ghosts D → Type 0
-OnlyNow {D = D} g = (disk : D) (image : List ℕ) → g.tells → g.could disk (g.moment disk) image → IsImage (g.seen disk) (g.pending disk) image
-
 noted_are : (marks : List Mark) (m : Machine) (number now : ℕ) → number ≡ number_of m → AreMarks marks m.marked now
     → AreMarks (marks ++ mark_of number now ∷ []) (noted m).marked now
 noted_are marks m number now is are =
@@ -154,16 +150,16 @@ noted_are marks m number now is are =
 
 module _ {D : Type 0} (g : Ghosts D) (only : OnlyNow g) (disk : D) (old : Engine) (m : Machine) (all : m.synced ≡ length m.history)
     (s : Serves g disk old m) where
-  held : g.tells → AllByRecursion (IsMark (g.could disk) (g.moment disk) (noted m)) (old.marks.items ++ mark_of old.number (g.moment disk) ∷ [])
-  held told = all_noted (g.could disk) (g.moment disk) (g.seen disk) (g.pending disk) old.tail.gate m all (s.logged told)
+  held : g.tells → AllByRecursion (IsMark (g.could disk) (g.clock disk) (noted m)) (old.marks.items ++ mark_of old.number (g.clock disk) ∷ [])
+  held told = all_noted (g.could disk) (g.clock disk) (g.seen disk) (g.pending disk) old.tail.place m all (s.logged told)
       (λ image. only disk image told) old.number s.stands.number old.marks.items (s.marks told)
 
   -- the marks that a run leaves which notes that all is safe
-  pub marked_noted : CountsNow g → Marked g disk (old.marks.items ++ mark_of old.number (g.moment disk) ∷ []) (noted m)
-  marked_noted counts = marked g counts disk _ (noted m) (noted_are old.marks.items m old.number (g.moment disk) s.stands.number s.marks_are) held
+  pub marked_noted : CountsNow g → Marked g disk (old.marks.items ++ mark_of old.number (g.clock disk) ∷ []) (noted m)
+  marked_noted counts = marked g counts disk _ (noted m) (noted_are old.marks.items m old.number (g.clock disk) s.stands.number s.marks_are) held
 
   -- the engine that notes it
-  pub serves_noted : (new : Engine) → NotesOnly old new → new.marks.items ≡ old.marks.items ++ mark_of old.number (g.moment disk) ∷ []
+  pub serves_noted : (new : Engine) → NotesOnly old new → new.marks.items ≡ old.marks.items ++ mark_of old.number (g.clock disk) ∷ []
       → Serves g disk new (noted m)
   serves_noted new same is = record {
     stands = record {
@@ -178,12 +174,12 @@ module _ {D : Type 0} (g : Ghosts D) (only : OnlyNow g) (disk : D) (old : Engine
     sized = s.sized;
     logged = λ told. (let l = s.logged told in record {
       stores = l.stores;
-      tail = ap (λ t. t.gate) same.tail ∙ l.tail;
+      tail = ap (λ t. t.place) same.tail ∙ l.tail;
       durable = l.durable;
     });
-    marks_are = subst (λ (ms : List Mark). AreMarks ms (noted m).marked (g.moment disk)) (sym is)
-        (noted_are old.marks.items m old.number (g.moment disk) s.stands.number s.marks_are);
-    marks = λ told. subst (AllByRecursion (IsMark (g.could disk) (g.moment disk) (noted m))) (sym is) (held told);
+    marks_are = subst (λ (ms : List Mark). AreMarks ms (noted m).marked (g.clock disk)) (sym is)
+        (noted_are old.marks.items m old.number (g.clock disk) s.stands.number s.marks_are);
+    marks = λ told. subst (AllByRecursion (IsMark (g.could disk) (g.clock disk) (noted m))) (sym is) (held told);
   }
 
 -- an engine whose marks have other room
@@ -202,9 +198,9 @@ serves_reserved g disk old new m same is s = record {
   sized = s.sized;
   logged = λ told. (let l = s.logged told in record {
     stores = l.stores;
-    tail = ap (λ t. t.gate) same.tail ∙ l.tail;
+    tail = ap (λ t. t.place) same.tail ∙ l.tail;
     durable = l.durable;
   });
-  marks_are = subst (λ (ms : List Mark). AreMarks ms m.marked (g.moment disk)) (sym is) s.marks_are;
-  marks = λ told. subst (AllByRecursion (IsMark (g.could disk) (g.moment disk) m)) (sym is) (s.marks told);
+  marks_are = subst (λ (ms : List Mark). AreMarks ms m.marked (g.clock disk)) (sym is) s.marks_are;
+  marks = λ told. subst (AllByRecursion (IsMark (g.could disk) (g.clock disk) m)) (sym is) (s.marks told);
 }

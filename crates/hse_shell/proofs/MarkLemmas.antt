@@ -3,8 +3,8 @@ use Rattle.std.proofs.Common.{◌≡◌, ◌≢◌, ℕ, ◌≤◌, List, [], �
 use Rattle.std.specs.List.{AllByRecursion}
 use Rattle.std.proofs.lemmas.List.{map-append}
 use Rattle.hse_io.specs.declared.outcome.Mark.{Mark}
-use Rattle.media_disk.specs.Images.{IsImage}
-use Rattle.media_disk.specs.declared.disk.Disk.{Ghosts}
+use Rattle.media_disk.specs.Images.{CountsNow}
+use Rattle.media_disk.specs.declared.device.Device.{Ghosts}
 use Rattle.hse_shell.specs.Machine.{Machine}
 use Rattle.hse_shell.specs.Marks.{StoresPrefix, IsMark, Rise, AreMarks, Marked, mark_of}
 use Rattle.hse_shell.specs.Logged.{Serves}
@@ -62,17 +62,12 @@ left_of could now m image counts [] all = tt
 left_of could now m image counts (mark ∷ marks) all =
     (all.0.kept image (counts mark.moment all.0.past), left_of could now m image counts marks all.1)
 
--- the law of a disk that an image of now counts since any clock
-abbrev pub CountsNow : {D : Type 0} → Ghosts D → Type 0
-CountsNow {D = D} g = (disk : D) (clock : ℕ) (image : List ℕ) → g.tells → clock ≤ g.moment disk
-    → IsImage (g.seen disk) (g.pending disk) image → g.could disk clock image
-
-pub marked : {D : Type 0} (g : Ghosts D) → CountsNow g → (disk : D) (marks : List Mark) (m : Machine) → AreMarks marks m.marked (g.moment disk)
-    → (g.tells → AllByRecursion (IsMark (g.could disk) (g.moment disk) m) marks) → Marked g disk marks m
+pub marked : {D : Type 0} (g : Ghosts D) → CountsNow g → (disk : D) (marks : List Mark) (m : Machine) → AreMarks marks m.marked (g.clock disk)
+    → (g.tells → AllByRecursion (IsMark (g.could disk) (g.clock disk) m) marks) → Marked g disk marks m
 marked g counts disk marks m are kept = record {
   marks_are = are;
   kept = kept;
-  left = λ told image now. left_of (g.could disk) (g.moment disk) m image (λ clock le. counts disk clock image told le now) marks (kept told);
+  left = λ told image now. left_of (g.could disk) (g.clock disk) m image (λ clock le. counts disk clock image told le now) marks (kept told);
 }
 
 -- whoever serves a state leaves it

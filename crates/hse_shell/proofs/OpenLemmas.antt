@@ -4,7 +4,7 @@ use Rattle.std.specs.List.{AllByRecursion}
 use Rattle.hse_io.specs.declared.outcome.Mark.{Mark}
 use Rattle.media_disk.specs.Content.{Torn}
 use Rattle.media_disk.specs.Images.{IsImage}
-use Rattle.media_disk.specs.declared.disk.Disk.{Ghosts}
+use Rattle.media_disk.specs.declared.device.Device.{Ghosts}
 use Rattle.gate_log.specs.Gates.{Gated}
 use Rattle.gate_log.specs.Places.{region_of, tail_of}
 use Rattle.gate_log.specs.declared.region.Tail.{Tail}
@@ -84,7 +84,7 @@ pub record Safe (seen : List ℕ) (pending : List (ℕ × ℕ)) (gate : ℕ) (ba
   pub durable : pending ≡ []
 
 -- what was replayed of a log with nothing pending
-pub replayed_safe : (seen : List ℕ) (pending : List (ℕ × ℕ)) (r : Replayed) → IsReplayed seen r → pending ≡ [] → Safe seen pending r.tail.gate (base_from r)
+pub replayed_safe : (seen : List ℕ) (pending : List (ℕ × ℕ)) (r : Replayed) → IsReplayed seen r → pending ≡ [] → Safe seen pending r.tail.place (base_from r)
 replayed_safe seen pending r is none = record { stores = is.stores; tail = is.tail; durable = none }
 
 opened_stores : (image : List ℕ) (base : Base) → Stores image base → Stores image (base_at (opening base) 0)
@@ -124,8 +124,8 @@ module _ (old new : Engine) (moment : ℕ) (kept : NotesOnly old new) where
       noted ∙ (λ i. none i ++ mark_of (number i) moment ∷ [])
 
   module _ {D : Type 0} (g : Ghosts D) (disk : D) (idle : IsIdle old) (none : old.marks.items ≡ [])
-      (noted : new.marks.items ≡ old.marks.items ++ mark_of old.number moment ∷ []) (sized : g.extent disk ≡ device_size) (past : moment ≤ g.moment disk)
-      (safe : g.tells → Safe (g.seen disk) (g.pending disk) old.tail.gate (base_in old))
+      (noted : new.marks.items ≡ old.marks.items ++ mark_of old.number moment ∷ []) (sized : g.extent disk ≡ device_size) (past : moment ≤ g.clock disk)
+      (safe : g.tells → Safe (g.seen disk) (g.pending disk) old.tail.place (base_in old))
       (only : g.tells → (image : List ℕ) → g.could disk moment image → image ≡ g.seen disk) where
     stores : g.tells → Stores (g.seen disk) (base_in new)
     stores told = record { entries = (safe told).stores.entries; loads = (safe told).stores.loads; is = (safe told).stores.is ∙ sym base_noted }
@@ -143,12 +143,12 @@ module _ (old new : Engine) (moment : ℕ) (kept : NotesOnly old new) where
           loads = (safe told).stores.loads;
           is = (safe told).stores.is ∙ sym base_noted ∙ sym (opening_base (base_in new));
         };
-        tail = ap (λ (tail : Tail). tail.gate) kept.tail ∙ (safe told).tail;
+        tail = ap (λ (tail : Tail). tail.place) kept.tail ∙ (safe told).tail;
         durable = (safe told).durable;
       };
-      marks_are = subst (λ (ms : List Mark). AreMarks ms (new.number ∷ []) (g.moment disk)) (sym marks) (marks_first new.number moment (g.moment disk) past);
-      marks = λ told. subst (AllByRecursion (IsMark (g.could disk) (g.moment disk) (opening (base_in new)))) (sym marks)
-          (opened_mark (g.could disk) (g.moment disk) moment (g.seen disk) (base_in new) past (stores told) (only told), tt);
+      marks_are = subst (λ (ms : List Mark). AreMarks ms (new.number ∷ []) (g.clock disk)) (sym marks) (marks_first new.number moment (g.clock disk) past);
+      marks = λ told. subst (AllByRecursion (IsMark (g.could disk) (g.clock disk) (opening (base_in new)))) (sym marks)
+          (opened_mark (g.could disk) (g.clock disk) moment (g.seen disk) (base_in new) past (stores told) (only told), tt);
     }
 
 -- a fault that a `?` hands on

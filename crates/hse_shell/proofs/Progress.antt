@@ -2,7 +2,7 @@
 use Rattle.std.proofs.Common.{◌≡◌, ℕ, ◌≤◌}
 use Rattle.hse_io.specs.declared.sink.Sink as sink
 use Rattle.hse_io.specs.declared.source.Source as source
-use Rattle.media_disk.specs.declared.disk.Disk as disk
+use Rattle.media_disk.specs.declared.device.Device as disk
 use Rattle.hse_shell.specs.SoFar.{Start, SoFar}
 use Rattle.hse_shell.specs.declared.engine.Engine.{Engine}
 
@@ -14,4 +14,4 @@ pub record Progress {S K D : Type 0} (s : source.Ghosts S) (k : sink.Ghosts K) (
   pub extent : d.extent end ≡ d.extent begin
   pub read : s.faults from ≤ s.faults now
   pub wrote : k.faults first ≤ k.faults last
-  pub failed : d.faults end ≡ d.faults begin
+  pub failed : d.faults begin ≤ d.faults end

@@ -11,14 +11,14 @@ use Rattle.gate_log.specs.Places.{region_of, tail_of}
 use Rattle.hse_fields.specs.LogText as log
 use Rattle.hse_fields.specs.LogForm.{IsEntry}
 use Rattle.hse_fields.specs.LogReading.{payload_of, PrefixesFit}
-use Rattle.hse_fields.specs.PayloadLaws.{payload_again}
-use Rattle.wal.specs.BatchLaws.{closed_read, batches_follow, more_is_read}
+use Rattle.hse_fields.specs.laws.Payloads.{payload_again}
+use Rattle.wal.specs.laws.Batches.{closed_read, batches_follow, more_is_read}
 use Rattle.wal.specs.Charges.{charges}
 use Rattle.wal.specs.Live.{prefix_fits}
 use Rattle.wal.specs.Logged.{charge}
 use Rattle.wal.specs.Numbered.{untaken, AreNumbered, IsRun}
 use Rattle.wal.specs.Numbering.{Numbers, numbering, last_number}
-use Rattle.wal.specs.NumberingLaws.{follow_run, run_follows}
+use Rattle.wal.specs.laws.Numbering.{follow_run, run_follows}
 use Rattle.wal.specs.Replaying.{segment_of}
 use Rattle.hse_shell.specs.Base.{Base}
 use Rattle.hse_shell.specs.Change.{Change, Contents, put, del, after}
@@ -112,8 +112,8 @@ more_read size payloads es last changes e some few small fits all more is =
     (sym run.last_is) (payload_read next left changes some small fits few all) in (
       after,
       subst (λ (ps : List (List ℕ)). segment_of live_stores longest_value (first_numbers size) ps (closed_behind ps) ≡ Ok (es ++ entries_from next changes, after)) (sym is)
-          (more_is_read live_stores longest_value (first_numbers size) payloads (record { gate = tail_of payloads })
-          (record { gate = tail_of (payloads ++ log.payload_text (entries_from next changes) ∷ []) })
+          (more_is_read live_stores longest_value (first_numbers size) payloads (record { place = tail_of payloads })
+          (record { place = tail_of (payloads ++ log.payload_text (entries_from next changes) ∷ []) })
           es last (log.payload_text (entries_from next changes)) (entries_from next changes) after e read),
     )
 

@@ -2,7 +2,7 @@
 use Rattle.std.proofs.Common.{◌≡◌, ℕ, ◌+◌, ◌-◌, ◌<◌, List, length, drop, get_or, Some, Ok, sym, ap, subst, ◌∙◌, slice_index_or, arith}
 use Rattle.std.specs.FinMap as map
 use Rattle.std.proofs.lemmas.List.{at_drop_more, length-map}
-use Rattle.gate_log.specs.OneFront.{one_front}
+use Rattle.gate_log.specs.laws.OneFront.{one_front}
 use Rattle.gate_log.specs.Places.{region_of, tail_of}
 use Rattle.gate_log.specs.Reading.{IsFront, payloads_of}
 use Rattle.gate_log.specs.declared.front.End.{End}
@@ -49,8 +49,8 @@ pub replay_of : (image : List ℕ) (front : Front) (segment : Segment) (rows : C
     → segment.next ≡ 2 + length segment.commits.items → rows ≡ replayed map.empty (entries_of segment.commits.items)
     → IsReplayed image (record { rows = rows; number = segment.next - 1; charges = segment.charges; tail = segment.tail })
 replay_of image front segment rows as_long of_log is sequence next replayed_are =
-    let gate : segment.tail.gate ≡ tail_of is.payloads = is.ends.1 in
-    let closed : Closed segment.tail ≡ closed_behind is.payloads = λ i. Closed (record { gate = gate i }) in
+    let gate : segment.tail.place ≡ tail_of is.payloads = is.ends.1 in
+    let closed : Closed segment.tail ≡ closed_behind is.payloads = λ i. Closed (record { place = gate i }) in
     let count : length (entries_of segment.commits.items) ≡ length segment.commits.items = length-map segment.commits.items entry_of in
     let contents : replayed map.empty (entries_of segment.commits.items) ≡ rows = sym replayed_are in
     let charged : charges (entries_of segment.commits.items) ≡ segment.charges = sym is.charges in

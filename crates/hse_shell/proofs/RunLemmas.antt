@@ -8,9 +8,9 @@ use Rattle.std.proofs.lemmas.List.Sums.{sum_by_push}
 use Rattle.std.proofs.lemmas.List.{append-nil}
 use Rattle.hse_io.specs.declared.source.Got.TheVariants.{Text, Ended}
 use Rattle.hse_io.specs.Lines.{after_line, lines_of}
-use Rattle.hse_io.specs.LinesLaw.{lines_of-first}
+use Rattle.hse_io.specs.laws.Lines.{lines_of-first}
 use Rattle.hse_io.specs.Takes.{Takes}
-use Rattle.media_disk.specs.declared.disk.Disk.{Ghosts}
+use Rattle.media_disk.specs.declared.device.Device.{Ghosts}
 use Rattle.hse_shell.specs.Base.{Base}
 use Rattle.hse_shell.specs.Grammar.{Meaning, Means}
 use Rattle.hse_shell.specs.Replies.{Answer, answer_line, opened_text}

@@ -1,5 +1,5 @@
 -- How a run stops, from what it did so far.
-use Rattle.std.proofs.Common.{◌≡◌, ◌⊎◌, inl, inr, ℕ, ◌+◌, ◌<◌, ◌≤◌, ◌^◌, List, [], ◌++◌, length, Option, Some, None, refl, sym, ap, subst, ◌∙◌, IfSome, arith}
+use Rattle.std.proofs.Common.{◌≡◌, ◌⊎◌, inl, inr, ℕ, ◌+◌, ◌<◌, ◌≤◌, List, [], ◌++◌, length, Option, Some, None, refl, sym, ap, subst, ◌∙◌, IfSome, arith}
 use Rattle.std.specs.Prelude.{Ok, Err}
 use Rattle.std.specs.Io.KnownBytes.{Appends}
 use Rattle.std.proofs.lemmas.List.{append-nil}
@@ -9,8 +9,10 @@ use Rattle.hse_io.specs.declared.outcome.Mark.{Mark}
 use Rattle.hse_io.specs.declared.outcome.Status.{Status}
 use Rattle.hse_io.specs.declared.outcome.Status.TheVariants as status
 use Rattle.hse_io.specs.Lines.{lines_of}
+use Rattle.hse_io.specs.Longest.{longest_script}
 use Rattle.hse_io.specs.Takes.{Takes}
-use Rattle.media_disk.specs.declared.disk.Disk.{Ghosts}
+use Rattle.media_disk.specs.Images.{CountsNow}
+use Rattle.media_disk.specs.declared.device.Device.{Ghosts}
 use Rattle.hse_shell.specs.Base.{Base}
 use Rattle.hse_shell.specs.Ends.{Answered, FailedToRead, MeetsLongLine, MeetsLimit, Unopened, at_line, at_closing, before_opening, for_opening, for_line, for_closing, of_opening, of_reply, of_closing, Greets, Stops, EndsServed, IsNotFormed, EndsTold}
 use Rattle.hse_shell.specs.Marks.{Marked}
@@ -21,7 +23,7 @@ use Rattle.hse_shell.specs.SoFar.{Start, Took, SoFar, IsShort}
 use Rattle.hse_shell.specs.Stored.{Begins}
 use Rattle.hse_shell.specs.Turns.{Unreplied, Replied, Closes}
 use Rattle.hse_shell.specs.declared.engine.Engine.{Engine}
-use Rattle.hse_shell.proofs.MarkLemmas.{CountsNow, marked_of}
+use Rattle.hse_shell.proofs.MarkLemmas.{marked_of}
 use Rattle.hse_shell.proofs.RunLemmas.{Appends-both, Appends-none, Appends-then_none, took_line, replies-push, script_length-push, ran_more}
 
 took_all : (left input : Option (List ℕ)) (lines : List (List ℕ)) → Took input lines left → IfSome input (λ all. left ≡ Some [])
@@ -32,7 +34,7 @@ took_all left (Some all) lines (rest, is, parts) end =
     (sym (append-nil lines) ∙ sym (parts ∙ ap (λ (r : List ℕ). lines ++ lines_of r) none), end)
 
 module _ {D : Type 0} (g : Ghosts D) (counts : CountsNow g) (start : Start D) (left between : Option (List ℕ)) (disk : D) (engine : Engine) (taken : ℕ)
-    (within : taken < 2 ^ 40) (s : SoFar g start left between disk engine taken) where
+    (within : taken < longest_script + 1) (s : SoFar g start left between disk engine taken) where
   abbrev answered_still : (after : Option (List ℕ)) → Appends between after [] → Answered g start left after
   answered_still after none = record {
     ran = s.ran;
@@ -97,7 +99,7 @@ module _ {D : Type 0} (g : Ghosts D) (counts : CountsNow g) (start : Start D) (l
 
   -- the line brought the sum to the limit
   pub meets_limit : (line : List ℕ) (now after : Option (List ℕ)) (new : D) (next : Engine) → IfSome left (λ all. Takes all (Ok Text) line now) → IsShort line
-      → Replied g s.ran.state line between after new next → 2 ^ 40 ≤ taken + length line + 1 → MeetsLimit g start now after new next.marks.items
+      → Replied g s.ran.state line between after new next → longest_script + 1 ≤ taken + length line + 1 → MeetsLimit g start now after new next.marks.items
   meets_limit line now after new next takes short r reached = record {
     ran = ran_more g start left now line s.ran takes short r.turned.meaning r.turned.answer r.turned.means r.turned.turned.step;
     wrote = subst (Appends start.held after) (sym (replies-push s.ran.base.number s.ran.answers r.turned.answer))

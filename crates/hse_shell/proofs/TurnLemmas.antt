@@ -4,7 +4,7 @@ use Rattle.std.specs.List.{AllByRecursion}
 use Rattle.std.specs.Prelude.{Ok, Err}
 use Rattle.std.proofs.lemmas.List.{take-append-le}
 use Rattle.hse_io.specs.declared.outcome.Mark.{Mark}
-use Rattle.media_disk.specs.declared.disk.Disk.{Ghosts}
+use Rattle.media_disk.specs.declared.device.Device.{Ghosts}
 use Rattle.hse_shell.specs.Base.{Base}
 use Rattle.hse_shell.specs.Change.{Change, put, del, after}
 use Rattle.hse_shell.specs.Grammar.{Meaning, Means, IsSync, puts, dels, gets, syncs, silent, unknown}
@@ -67,20 +67,20 @@ module _ {D : Type 0} (g : Ghosts D) (disk : D) (old new : Engine) (m : Machine)
   serves_committed change stands = record {
     stands = stands;
     sized = s.sized;
-    logged = λ told. longer_log (g.seen disk) (g.pending disk) new.tail.gate m change s.stands.synced
-        (subst (λ t. Logged (g.seen disk) (g.pending disk) t.gate m) (sym tail) (s.logged told));
-    marks = λ told. longer_mark (g.could disk) (g.moment disk) m change new.marks.items
-        (subst (λ ms. AllByRecursion (IsMark (g.could disk) (g.moment disk) m) ms.items) (sym marks) (s.marks told));
-    marks_are = subst (λ ms. AreMarks ms.items m.marked (g.moment disk)) (sym marks) s.marks_are;
+    logged = λ told. longer_log (g.seen disk) (g.pending disk) new.tail.place m change s.stands.synced
+        (subst (λ t. Logged (g.seen disk) (g.pending disk) t.place m) (sym tail) (s.logged told));
+    marks = λ told. longer_mark (g.could disk) (g.clock disk) m change new.marks.items
+        (subst (λ ms. AllByRecursion (IsMark (g.could disk) (g.clock disk) m) ms.items) (sym marks) (s.marks told));
+    marks_are = subst (λ ms. AreMarks ms.items m.marked (g.clock disk)) (sym marks) s.marks_are;
   }
 
   serves_still : Stands new m → Serves g disk new m
   serves_still stands = record {
     stands = stands;
     sized = s.sized;
-    logged = λ told. subst (λ t. Logged (g.seen disk) (g.pending disk) t.gate m) (sym tail) (s.logged told);
-    marks = λ told. subst (λ ms. AllByRecursion (IsMark (g.could disk) (g.moment disk) m) ms.items) (sym marks) (s.marks told);
-    marks_are = subst (λ ms. AreMarks ms.items m.marked (g.moment disk)) (sym marks) s.marks_are;
+    logged = λ told. subst (λ t. Logged (g.seen disk) (g.pending disk) t.place m) (sym tail) (s.logged told);
+    marks = λ told. subst (λ ms. AllByRecursion (IsMark (g.could disk) (g.clock disk) m) ms.items) (sym marks) (s.marks told);
+    marks_are = subst (λ ms. AreMarks ms.items m.marked (g.clock disk)) (sym marks) s.marks_are;
   }
 
   -- the answer of a put

@@ -7,7 +7,7 @@ use Rattle.hse_io.specs.Longest.{longest_line}
 use Rattle.hse_io.specs.declared.outcome.Mark.{Mark}
 use Rattle.hse_io.specs.declared.outcome.Status.{Status}
 use Rattle.hse_io.specs.declared.outcome.Status.TheVariants as status
-use Rattle.media_disk.specs.declared.disk.Disk.{Ghosts}
+use Rattle.media_disk.specs.declared.device.Device.{Ghosts}
 use Rattle.hse_shell.specs.Base.{Base}
 use Rattle.hse_shell.specs.Machine.{Machine, opening, number_of, base_at, all_synced}
 use Rattle.hse_shell.specs.Replies.{opened_text, not_formed_text}

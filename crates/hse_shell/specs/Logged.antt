@@ -2,7 +2,7 @@
 use Rattle.std.specs.Prelude.{◌≡◌, ◌⊎◌, ℕ, List, []}
 use Rattle.std.specs.List.{AllByRecursion}
 use Rattle.media_disk.specs.Images.{IsImage}
-use Rattle.media_disk.specs.declared.disk.Disk.{Ghosts}
+use Rattle.media_disk.specs.declared.device.Device.{Ghosts}
 use Rattle.gate_log.specs.Places.{tail_of}
 use Rattle.hse_shell.specs.Grammar.{Meaning}
 use Rattle.hse_shell.specs.Replies.{Answer}
@@ -22,9 +22,9 @@ pub record Logged (seen : List ℕ) (pending : List (ℕ × ℕ)) (gate : ℕ) (
 pub record Serves {D : Type 0} (g : Ghosts D) (disk : D) (engine : Engine) (m : Machine) : Type 0 where
   pub stands : Stands engine m
   pub sized : g.extent disk ≡ device_size
-  pub logged : g.tells → Logged (g.seen disk) (g.pending disk) engine.tail.gate m
-  pub marks_are : AreMarks engine.marks.items m.marked (g.moment disk)
-  pub marks : g.tells → AllByRecursion (IsMark (g.could disk) (g.moment disk) m) engine.marks.items
+  pub logged : g.tells → Logged (g.seen disk) (g.pending disk) engine.tail.place m
+  pub marks_are : AreMarks engine.marks.items m.marked (g.clock disk)
+  pub marks : g.tells → AllByRecursion (IsMark (g.could disk) (g.clock disk) m) engine.marks.items
 
 -- The line may get this answer, and then the engine and the device serve where it leads.
 pub record ServesLine {D : Type 0} (g : Ghosts D) (m : Machine) (line : Meaning) (answer : Answer) (disk : D) (engine : Engine) : Type 0 where

@@ -3,7 +3,7 @@ use Rattle.std.specs.Prelude.{◌≡◌, ◌≢◌, ℕ, ◌+◌, ◌≤◌, Lis
 use Rattle.std.specs.List.{AllByRecursion}
 use Rattle.hse_io.specs.declared.outcome.Mark.{Mark}
 use Rattle.media_disk.specs.Images.{IsImage}
-use Rattle.media_disk.specs.declared.disk.Disk.{Ghosts}
+use Rattle.media_disk.specs.declared.device.Device.{Ghosts}
 use Rattle.hse_shell.specs.Machine.{Machine, base_at}
 use Rattle.hse_shell.specs.Stored.{Stores}
 
@@ -39,7 +39,7 @@ pub record AreMarks (marks : List Mark) (numbers : List ℕ) (now : ℕ) : Type 
 -- What a run leaves that led to this state: its marks are the state's, and what a crash since one of them, or at the
 -- end, might have left is formed and stores a prefix of the history from the mark's number on.
 pub record Marked {D : Type 0} (g : Ghosts D) (disk : D) (marks : List Mark) (m : Machine) : Type 0 where
-  pub marks_are : AreMarks marks m.marked (g.moment disk)
-  pub kept : g.tells → AllByRecursion (IsMark (g.could disk) (g.moment disk) m) marks
+  pub marks_are : AreMarks marks m.marked (g.clock disk)
+  pub kept : g.tells → AllByRecursion (IsMark (g.could disk) (g.clock disk) m) marks
   pub left : g.tells → (image : List ℕ) → IsImage (g.seen disk) (g.pending disk) image
       → AllByRecursion (λ mark. StoresPrefix m mark.number image) marks

@@ -15,7 +15,7 @@ base_from r = record { number = r.number; contents = r.rows; charges = r.charges
 -- the image stores it, and its log ends at this gate
 pub record IsReplayed (image : List ℕ) (r : Replayed) : Type 0 where
   pub stores : Stores image (base_from r)
-  pub tail : r.tail.gate ≡ tail_of stores.loads.payloads
+  pub tail : r.tail.place ≡ tail_of stores.loads.payloads
 
 -- what the image stores, or where it is refused
 abbrev pub IsOpening : List ℕ → Result Replayed OpenFault → Type 0
@@ -28,4 +28,4 @@ IsOpening image (Err NoMemory) = Unit {0}
 pub record IsInBounds (r : Replayed) : Type 0 where
   pub within : r.charges ≤ room
   pub numbered : r.number ≤ 1 + r.charges
-  pub placed : r.tail.gate ≤ 9 + r.charges
+  pub placed : r.tail.place ≤ 9 + r.charges

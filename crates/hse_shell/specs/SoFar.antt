@@ -1,10 +1,10 @@
 -- A run of a script up to some line.
-use Rattle.std.specs.Prelude.{◌≡◌, ℕ, ◌+◌, ◌≤◌, ◌^◌, List, ◌++◌, length, sum_by, Option, Some, IfSome}
+use Rattle.std.specs.Prelude.{◌≡◌, ℕ, ◌+◌, ◌≤◌, List, ◌++◌, length, sum_by, Option, Some, IfSome}
 use Rattle.std.specs.Io.KnownBytes.{Appends}
 use Rattle.std.specs.List.{AllByRecursion}
 use Rattle.hse_io.specs.Lines.{lines_of}
-use Rattle.hse_io.specs.Longest.{longest_line}
-use Rattle.media_disk.specs.declared.disk.Disk.{Ghosts}
+use Rattle.hse_io.specs.Longest.{longest_line, longest_script}
+use Rattle.media_disk.specs.declared.device.Device.{Ghosts}
 use Rattle.hse_shell.specs.Base.{Base}
 use Rattle.hse_shell.specs.Stored.{Begins}
 use Rattle.hse_shell.specs.Replies.{Answer}
@@ -33,7 +33,7 @@ script_length lines = sum_by (λ line. length line + 1) lines
 
 -- a script's lines have fewer bytes
 abbrev pub script_limit : ℕ
-script_limit = 2 ^ 40
+script_limit = longest_script + 1
 
 -- From what the device stored these lines were taken, and these are answers of the machine to them.
 pub record Ran {D : Type 0} (g : Ghosts D) (start : Start D) (left : Option (List ℕ)) : Type 0 where

@@ -1,13 +1,14 @@
 -- What a device stores, and where one is refused.
 use Rattle.std.specs.Prelude.{◌≡◌, ◌≢◌, ◌⊎◌, ℕ, ◌+◌, ◌%◌, ◌^◌, ◌≤◌, ◌==◌, if◌then◌else◌, List, [], ◌∷◌, length, Ok, Err}
 use Rattle.std.specs.FinMap as map
-use Rattle.gate_log.specs.Gates.{Gated, IsShut}
+use Rattle.gate_log.specs.Gates.{Gated, IsClosed}
 use Rattle.gate_log.specs.Places.{region_of, tail_of}
 use Rattle.gate_log.specs.Reading.{Ends}
 use Rattle.gate_log.specs.declared.front.End.{End}
 use Rattle.gate_log.specs.declared.front.End.TheVariants.{Closed}
 use Rattle.gate_log.specs.declared.region.Region.{Region}
 use Rattle.hse_fields.specs.LogText as log
+use Rattle.hse_io.specs.Longest.{longest_line}
 use Rattle.wal.specs.Charges.{charges}
 use Rattle.wal.specs.Numbering.{Numbers}
 use Rattle.wal.specs.Replaying.{starting, segment_of}
@@ -34,7 +35,7 @@ live_stores = record { store = record { 0 = store_id }; length = 0 } ∷ []
 
 -- a value has no limit of its own but a line's
 abbrev pub longest_value : ℕ
-longest_value = 4194304
+longest_value = longest_line
 
 -- Before the first commit: it has the number 2, no number is taken, and the room is a segment's.
 abbrev pub first_numbers : ℕ → Numbers
@@ -65,7 +66,7 @@ base_of entries = record { number = 1 + length entries; contents = replayed map.
 
 -- a closed gate behind these batches
 abbrev pub closed_behind : List (List ℕ) → End
-closed_behind payloads = Closed (record { gate = tail_of payloads })
+closed_behind payloads = Closed (record { place = tail_of payloads })
 
 -- The image is one region of the log whose batches say these commits.
 pub record Loads (image : List ℕ) (entries : List log.Entry) : Type 0 where
@@ -91,7 +92,7 @@ Begins image base = ((image ≡ []) × (base ≡ base_of [])) ⊎ Stores image b
 -- a sequence that is none of the region's at 1, else what the text of its batches refuses.
 pub data IsRefusedAt (image : List ℕ) (place : ℕ) : Type 0 where
   of_size : image ≢ [] → length image ≢ device_size → place ≡ 0 → IsRefusedAt image place
-  of_head : length image ≡ device_size → IsShut (region_of log_region image) → place ≡ 0 → IsRefusedAt image place
+  of_head : length image ≡ device_size → IsClosed (region_of log_region image) → place ≡ 0 → IsRefusedAt image place
   of_sequence : (sequence : ℕ) (payloads : List (List ℕ)) (end : End) → length image ≡ device_size
       → Ends (region_of log_region image) sequence payloads end → (IsLogSequence sequence → ⊥) → place ≡ 1 → IsRefusedAt image place
   of_batches : (sequence : ℕ) (payloads : List (List ℕ)) (end : End) → length image ≡ device_size

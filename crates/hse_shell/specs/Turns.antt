@@ -4,7 +4,7 @@ use Rattle.std.specs.Io.KnownBytes.{Appends}
 use Rattle.hse_io.specs.declared.outcome.Mark.{Mark}
 use Rattle.hse_io.specs.declared.outcome.Status.{Status}
 use Rattle.hse_io.specs.declared.outcome.Status.TheVariants as status
-use Rattle.media_disk.specs.declared.disk.Disk.{Ghosts}
+use Rattle.media_disk.specs.declared.device.Device.{Ghosts}
 use Rattle.hse_shell.specs.Grammar.{Meaning, Means, IsSync, IsSilent, syncs}
 use Rattle.hse_shell.specs.Replies.{Answer, no_reply, answer_line, closed_text}
 use Rattle.hse_shell.specs.Machine.{Machine, Step, led_to, number_of, base_at, all_synced, unsynced}

@@ -23,15 +23,13 @@ pub(crate) fn answer<K: Sink, D: Disk>(
 ) -> Result<(), Status>
     requires extent { D.extent disk.old ≡ device_size }
     requires short { length line.now < 2 ^ 32 }
-    ensures replied { OnOk result ((m : Machine) → Serves D.Disk disk.old engine.old m
-        → Replied D.Disk m line.now (K.contents sink.old) (K.contents sink.new) disk.new engine.new) }
-    ensures unreplied { IfErr result (λ ended. (m : Machine) → Serves D.Disk disk.old engine.old m
-        → Unreplied D.Disk ended m line.now (K.contents sink.old) (K.contents sink.new) disk.new engine.new.marks.items) }
+    ensures replied { OnOk result ((m : Machine) → Serves D.Device disk.old engine.old m
+        → Replied D.Device m line.now (K.contents sink.old) (K.contents sink.new) disk.new engine.new) }
+    ensures unreplied { IfErr result (λ ended. (m : Machine) → Serves D.Device disk.old engine.old m
+        → Unreplied D.Device ended m line.now (K.contents sink.old) (K.contents sink.new) disk.new engine.new.marks.items) }
     ensures read { IsErrOf result Status.ReadFault → ⊥ }
     ensures write { IsErrOf result Status.WriteFault → Rose (K.faults sink.old) (K.faults sink.new) }
     ensures device { IsErrOf result Status.DeviceFault → Rose (D.faults disk.old) (D.faults disk.new) }
-    ensures at_once { D.faults disk.old < D.faults disk.new → IsErrOf result Status.DeviceFault }
-    ensures last { IsErrOf result Status.DeviceFault → D.failed_at disk.new ≡ D.moment disk.new }
     ensures later { (K.faults sink.old ≤ K.faults sink.new) × (D.faults disk.old ≤ D.faults disk.new) }
     ensures extent { D.extent disk.new ≡ D.extent disk.old }
 {

@@ -41,13 +41,11 @@ pub(crate) fn close<K: Sink, D: Disk>(
     text: &mut Vec<u8>,
 ) -> Outcome
     requires { D.extent disk.old ≡ device_size }
-    ensures closes { (m : Machine) → Serves D.Disk disk.old engine m → Closes D.Disk result.status m
+    ensures closes { (m : Machine) → Serves D.Device disk.old engine m → Closes D.Device result.status m
         (K.contents sink.old) (K.contents sink.new) disk.new result.marks.items }
     ensures read { result.status ≡ Status.ReadFault → ⊥ }
     ensures write { result.status ≡ Status.WriteFault → Rose (K.faults sink.old) (K.faults sink.new) }
     ensures device { result.status ≡ Status.DeviceFault → Rose (D.faults disk.old) (D.faults disk.new) }
-    ensures at_once { D.faults disk.old < D.faults disk.new → result.status ≡ Status.DeviceFault }
-    ensures last { result.status ≡ Status.DeviceFault → D.failed_at disk.new ≡ D.moment disk.new }
     ensures later { K.faults sink.old ≤ K.faults sink.new }
 {
     let mut engine = engine;

@@ -5,7 +5,7 @@ ghost use Rattle.hse_shell.specs.Machine.{room};
 use crate::entry::{charge_of_del, charge_of_put, push_del, push_put};
 use crate::reply::Reply;
 use crate::rows::Rows;
-use gate_log::Tail;
+use gate_log::{FIRST_GATE, Tail};
 use hse_io::{Mark, NoMemory};
 use std::alloc::Global;
 
@@ -34,15 +34,12 @@ pub(crate) struct Engine {
     ghost numbered: { number ≤ 1 + charges },
     ghost headed: { 4 ≤ length waiting.items },
     // Each entry is charged 32 bytes more than it takes, and that is more than its batch takes besides.
-    ghost placed: { tail.gate + length waiting.items + 32 * count ≤ 13 + charges },
+    ghost placed: { tail.place + length waiting.items + 32 * count ≤ 13 + charges },
     ghost spare: { vec_len marks < vec_capacity marks },
 }
 
 /// The number of the base before the first commit.
 const BASE: u64 = 1;
-
-/// The place of the closed gate of a log without batches.
-const FIRST_GATE: u64 = 9;
 
 impl Engine {
     ghost use Rattle.std.specs.Prelude.{◌≡◌, ◌+◌, ◌^◌, ◌<◌, ◌≤◌, [], None, Some, MatchOption, IfNone, IfOk, length, vec_len, vec_capacity};
@@ -67,7 +64,7 @@ impl Engine {
             charges: 0,
             waiting: Vec::from_slice(alloc, &[0; 4])?,
             count: 0,
-            tail: Tail { gate: FIRST_GATE },
+            tail: Tail { place: FIRST_GATE },
             marks: Vec::with_capacity(alloc, 2)?,
         })
     }

@@ -16,8 +16,6 @@ mod reply;
 mod rows;
 mod run;
 mod script;
-#[cfg(test)]
-mod tests;
 mod turn;
 
 pub use command::lines_have_one_meaning;

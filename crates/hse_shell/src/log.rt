@@ -46,7 +46,7 @@ fn push_reserved(marks: &mut Vec<Mark>, mark: Mark)
 
 impl Engine {
     ghost use Rattle.std.specs.Prelude.{◌≡◌, ◌≢◌, ◌+◌, ◌<◌, ◌≤◌, ◌++◌, ◌∷◌, [], ℕ, length, Ok, IfOk, OnOk, OnErr, IsErrOf, vec_len, vec_capacity};
-    ghost use Rattle.hse_io.specs.Faults.{Rose, HasCause};
+    ghost use Rattle.hse_io.specs.Faults.{Rose};
     ghost use Rattle.hse_io.specs.declared.outcome.Mark.{Mark as a_mark};
     ghost use Rattle.hse_shell.specs.declared.log.FlushFault.{FlushFault};
     ghost use Rattle.hse_shell.specs.Machine.{Machine, flushed, noted, all_synced};
@@ -60,19 +60,17 @@ impl Engine {
     /// Puts the waiting commits on the device as one batch. Where none waits there is no device call.
     pub(crate) fn flush<D: Disk>(&mut self, alloc: Global, disk: &mut D) -> Result<(), FlushFault>
         requires { D.extent disk.old ≡ device_size }
-        ensures synced { OnOk result ((m : Machine) → Serves D.Disk disk.old self.old m
-            → Serves D.Disk disk.new self.new (flushed m)) }
+        ensures synced { OnOk result ((m : Machine) → Serves D.Device disk.old self.old m
+            → Serves D.Device disk.new self.new (flushed m)) }
         ensures no_memory { IsErrOf result FlushFault.NoMemory → (m : Machine)
-            → Serves D.Disk disk.old self.old m → Serves D.Disk disk.new self.new m }
+            → Serves D.Device disk.old self.old m → Serves D.Device disk.new self.new m }
         // Where the device fails, what is left of the marks holds with all commits, safe or not.
         ensures marked { IsErrOf result FlushFault.Device → (m : Machine)
-            → Serves D.Disk disk.old self.old m → Marked D.Disk disk.new self.new.marks.items m }
+            → Serves D.Device disk.old self.old m → Marked D.Device disk.new self.new.marks.items m }
         ensures device { IsErrOf result FlushFault.Device → Rose (D.faults disk.old) (D.faults disk.new) }
         ensures later { D.faults disk.old ≤ D.faults disk.new }
         ensures idle { self.old.count ≡ 0 → disk.new ≡ disk.old }
         ensures asked { IsErrOf result FlushFault.Device → self.old.count ≢ 0 }
-        ensures at_once { D.faults disk.old < D.faults disk.new → IsErrOf result FlushFault.Device }
-        ensures last { IsErrOf result FlushFault.Device → D.failed_at disk.new ≡ D.moment disk.new }
         ensures extent { D.extent disk.new ≡ D.extent disk.old }
         ensures number { self.new.number ≡ self.old.number }
         ensures marks { self.new.marks ≡ self.old.marks }
@@ -115,13 +113,13 @@ impl Engine {
         disk: &mut D,
     ) -> Result<Reply<'static>, Failed>
         requires { D.extent disk.old ≡ device_size }
-        ensures answers { IfOk result (λ reply. (m : Machine) → Serves D.Disk disk.old self.old m
-            → ServesLine D.Disk m syncs (answer_of reply) disk.new self.new) }
+        ensures answers { IfOk result (λ reply. (m : Machine) → Serves D.Device disk.old self.old m
+            → ServesLine D.Device m syncs (answer_of reply) disk.new self.new) }
         // Where the device fails, what is left of the marks holds with all commits, safe or not.
-        ensures marked { OnErr result ((m : Machine) → Serves D.Disk disk.old self.old m
-            → Marked D.Disk disk.new self.new.marks.items m) }
-        ensures cause { HasCause (D.faults disk.old) (D.faults disk.new) result }
-        ensures last { OnErr result (D.failed_at disk.new ≡ D.moment disk.new) }
+        ensures marked { OnErr result ((m : Machine) → Serves D.Device disk.old self.old m
+            → Marked D.Device disk.new self.new.marks.items m) }
+        ensures device { OnErr result (Rose (D.faults disk.old) (D.faults disk.new)) }
+        ensures later { D.faults disk.old ≤ D.faults disk.new }
         ensures asked { OnErr result (self.old.count ≢ 0) }
         ensures extent { D.extent disk.new ≡ D.extent disk.old }
     {

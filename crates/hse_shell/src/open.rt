@@ -1,7 +1,8 @@
 //! Opens a device: formats an empty one, and reads the log of another.
 ghost use Rattle.std.specs.Prelude.{◌≡◌, ◌≢◌, ℕ, ◌+◌, ◌<◌, ◌≤◌, List, [], Some, IfOk, OnOk, OnErr, IsErrOf, vec_len, vec_capacity};
 ghost use Rattle.hse_io.specs.Faults.{Rose, HasCause};
-ghost use Rattle.gate_log.specs.Gates.{IsShut};
+ghost use Rattle.media_disk.specs.Calls.{CallsMade, OnlyReads};
+ghost use Rattle.gate_log.specs.Gates.{IsClosed};
 ghost use Rattle.gate_log.specs.Places.{region_of};
 ghost use Rattle.gate_log.specs.Reading.{IsFront, LiesInside, payloads_of};
 ghost use Rattle.hse_shell.specs.Machine.{opening};
@@ -44,7 +45,6 @@ fn give_size<D: Disk>(disk: &mut D, size: u64) -> Result<(), Failed>
     ensures sized { OnOk result (D.extent disk.new ≡ size) }
     ensures durable { D.tells → OnOk result (D.pending disk.new ≡ []) }
     ensures cause { HasCause (D.faults disk.old) (D.faults disk.new) result }
-    ensures last { OnErr result (D.failed_at disk.new ≡ D.moment disk.new) }
 {
     disk.set_size(size)?;
     disk.sync()?;
@@ -58,10 +58,9 @@ fn format<D: Disk>(disk: &mut D, engine: &mut Engine) -> Result<(), Failed>
     requires idle { IsIdle engine.old }
     requires unmarked { engine.old.marks.items ≡ [] }
     requires room { vec_len engine.old.marks + 1 < vec_capacity engine.old.marks }
-    ensures serves { OnOk result (Serves D.Disk disk.new engine.new (opening (base_in engine.new))) }
+    ensures serves { OnOk result (Serves D.Device disk.new engine.new (opening (base_in engine.new))) }
     ensures base { base_in engine.new ≡ base_in engine.old }
     ensures cause { HasCause (D.faults disk.old) (D.faults disk.new) result }
-    ensures last { OnErr result (D.failed_at disk.new ≡ D.moment disk.new) }
 {
     give_size(disk, DEVICE_SIZE)?;
     let tail = start(disk, &LOG, 1)?;
@@ -77,17 +76,10 @@ fn read_log<D: Disk>(alloc: Global, disk: &mut D) -> Result<Front, OpenFault>
         → IfOk result (λ front. IsFront (region_of log_region (D.seen disk.old)) (Some front)) }
     ensures inside { IfOk result (λ front. LiesInside device_size (payloads_of front.batches.items) front.end) }
     ensures refused { (place : ℕ) → IsErrOf result (OpenFault.NotFormed place)
-        → (place ≡ 0) × (D.tells → IsShut (region_of log_region (D.seen disk.old))) }
+        → (place ≡ 0) × (D.tells → IsClosed (region_of log_region (D.seen disk.old))) }
     ensures device { IsErrOf result OpenFault.Device → Rose (D.faults disk.old) (D.faults disk.new) }
-    ensures at_once { D.faults disk.old < D.faults disk.new → IsErrOf result OpenFault.Device }
-    ensures last { IsErrOf result OpenFault.Device → D.failed_at disk.new ≡ D.moment disk.new }
-    ensures later { D.faults disk.old ≤ D.faults disk.new }
-    ensures extent { D.extent disk.new ≡ D.extent disk.old }
-    ensures clock { D.moment disk.old ≤ D.moment disk.new }
-    ensures seen { D.tells → D.seen disk.new ≡ D.seen disk.old }
-    ensures pending { D.tells → D.pending disk.new ≡ D.pending disk.old }
-    ensures crash { D.tells → (clock : ℕ) (image : List ℕ) → clock ≤ D.moment disk.old
-        → D.could disk.new clock image → D.could disk.old clock image }
+    ensures calls { CallsMade D.Device disk.old disk.new }
+    ensures reads { OnlyReads D.Device disk.old disk.new }
 {
     match read_front(alloc, disk, &LOG) {
         Ok(Some(front)) => Ok(front),
@@ -103,14 +95,12 @@ fn recover<D: Disk>(alloc: Global, disk: &mut D, engine: &mut Engine) -> Result<
     requires idle { IsIdle engine.old }
     requires unmarked { engine.old.marks.items ≡ [] }
     requires room { vec_len engine.old.marks + 1 < vec_capacity engine.old.marks }
-    ensures serves { OnOk result (Serves D.Disk disk.new engine.new (opening (base_in engine.new))) }
+    ensures serves { OnOk result (Serves D.Device disk.new engine.new (opening (base_in engine.new))) }
     ensures stores { D.tells → OnOk result (Stores (D.seen disk.old) (base_in engine.new)) }
     ensures refused { (place : ℕ) → IsErrOf result (OpenFault.NotFormed place)
         → D.tells → IsRefusedAt (D.seen disk.old) place }
-    ensures stays { D.tells → Stays D.Disk disk.old disk.new }
+    ensures stays { D.tells → Stays D.Device disk.old disk.new }
     ensures device { IsErrOf result OpenFault.Device → Rose (D.faults disk.old) (D.faults disk.new) }
-    ensures at_once { D.faults disk.old < D.faults disk.new → IsErrOf result OpenFault.Device }
-    ensures last { IsErrOf result OpenFault.Device → D.failed_at disk.new ≡ D.moment disk.new }
     ensures later { D.faults disk.old ≤ D.faults disk.new }
 {
     disk.sync()?;
@@ -133,14 +123,12 @@ fn recover<D: Disk>(alloc: Global, disk: &mut D, engine: &mut Engine) -> Result<
 /// Opens a device: formats an empty one, reads the log of another, and notes that what it stores is safe. Before the
 /// log is read a sync leaves nothing pending.
 pub(crate) fn open<D: Disk>(alloc: Global, disk: &mut D) -> Result<Engine, OpenFault>
-    ensures serves { IfOk result (λ engine. Serves D.Disk disk.new engine (opening (base_in engine))) }
+    ensures serves { IfOk result (λ engine. Serves D.Device disk.new engine (opening (base_in engine))) }
     ensures begins { IfOk result (λ engine. D.tells → Begins (D.seen disk.old) (base_in engine)) }
     ensures refused { (place : ℕ) → IsErrOf result (OpenFault.NotFormed place)
-        → D.tells → IsRefusedAt (D.seen disk.old) place × Stays D.Disk disk.old disk.new }
-    ensures stays { OnErr result (WasEmptyOrStays D.Disk disk.old disk.new) }
+        → D.tells → IsRefusedAt (D.seen disk.old) place × Stays D.Device disk.old disk.new }
+    ensures stays { OnErr result (WasEmptyOrStays D.Device disk.old disk.new) }
     ensures device { IsErrOf result OpenFault.Device → Rose (D.faults disk.old) (D.faults disk.new) }
-    ensures at_once { D.faults disk.old < D.faults disk.new → IsErrOf result OpenFault.Device }
-    ensures last { IsErrOf result OpenFault.Device → D.failed_at disk.new ≡ D.moment disk.new }
     ensures later { D.faults disk.old ≤ D.faults disk.new }
 {
     let Ok(mut engine) = Engine::new(alloc) else {

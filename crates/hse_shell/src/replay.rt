@@ -13,16 +13,13 @@ use crate::log::DEVICE_SIZE;
 use crate::open::OpenFault;
 use crate::rows::Rows;
 use gate_log::{Front, Tail};
-use hse_io::NoMemory;
+use hse_io::{LONGEST_LINE, NoMemory};
 use hse_rows::{ChangeRef, StoreId, WriteSet};
 use std::alloc::Global;
 use wal::{Commit, SegmentFault, StorePrefix, segment_in};
 
 /// The number of the first commit.
 const FIRST_NUMBER: u64 = 2;
-
-/// The most bytes that a value has in the log: those of a line.
-const LONGEST_VALUE: u64 = 4_194_304;
 
 /// The greatest sequence of a region.
 const LAST_SEQUENCE: u64 = 1 << 62;
@@ -106,7 +103,7 @@ pub(crate) fn replay(alloc: Global, front: Front) -> Result<Replayed, OpenFault>
     let segment = match segment_in(
         alloc,
         DEVICE_SIZE,
-        LONGEST_VALUE,
+        LONGEST_LINE as u64,
         FIRST_NUMBER,
         &[],
         &LIVE_STORES,
@@ -115,7 +112,6 @@ pub(crate) fn replay(alloc: Global, front: Front) -> Result<Replayed, OpenFault>
         Ok(segment) => segment,
         Err(SegmentFault::Damaged(place)) => return Err(OpenFault::NotFormed(place)),
         Err(SegmentFault::NoMemory) => return Err(OpenFault::NoMemory),
-        Err(SegmentFault::Device) => unreachable!(),
     };
     let Ok(rows) = rows_of(alloc, &segment.commits) else {
         return Err(OpenFault::NoMemory);

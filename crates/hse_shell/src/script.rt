@@ -1,6 +1,7 @@
 //! A script, line by line.
 ghost use Rattle.std.specs.Prelude.{◌≡◌, ◌+◌, ◌^◌, ◌<◌, ◌≤◌, [], Some, Ok, IfSome, OnOk, IfErr, IsErrOf, length};
 ghost use Rattle.hse_io.specs.Faults.{Rose};
+ghost use Rattle.hse_io.specs.Longest.{longest_script};
 ghost use Rattle.hse_io.specs.declared.source.Got.{Got};
 ghost use Rattle.hse_shell.specs.Machine.{Machine};
 ghost use Rattle.hse_shell.specs.Logged.{Serves};
@@ -10,12 +11,9 @@ ghost use Rattle.hse_shell.specs.Ends.{Stops};
 
 use crate::answering::answer;
 use crate::engine::Engine;
-use hse_io::{Got, Line, LineFault, NoMemory, Sink, Source, Status};
+use hse_io::{Got, LONGEST_SCRIPT, Line, LineFault, NoMemory, Sink, Source, Status};
 use media_disk::Disk;
 use std::alloc::Global;
-
-/// The lines of a script have fewer bytes, each line counted with one byte more.
-const LONGEST_SCRIPT: u64 = 1 << 40;
 
 /// A script that is being answered.
 #[derive(Drop)]
@@ -26,7 +24,7 @@ pub(crate) struct Script {
     pub(crate) text: Vec<u8>,
     /// The bytes of the lines taken, each line counted with one byte more.
     pub(crate) taken: u64,
-    ghost within: { taken < 2 ^ 40 },
+    ghost within: { taken ≤ longest_script },
 }
 
 impl Script {
@@ -55,20 +53,18 @@ fn advance<S: Source, K: Sink, D: Disk>(
 ) -> Result<Got, Status>
     requires { D.extent disk.old ≡ device_size }
     ensures text { result ≡ Ok Got.Text → (start : Start D)
-        → SoFar D.Disk start (S.remaining source.old) (K.contents sink.old) disk.old engine.old script.old.taken
-        → SoFar D.Disk start (S.remaining source.new) (K.contents sink.new) disk.new engine.new script.new.taken }
+        → SoFar D.Device start (S.remaining source.old) (K.contents sink.old) disk.old engine.old script.old.taken
+        → SoFar D.Device start (S.remaining source.new) (K.contents sink.new) disk.new engine.new script.new.taken }
     ensures ended { result ≡ Ok Got.Ended → (start : Start D)
-        → SoFar D.Disk start (S.remaining source.old) (K.contents sink.old) disk.old engine.old script.old.taken
-        → SoFar D.Disk start (S.remaining source.new) (K.contents sink.new) disk.new engine.new script.new.taken
+        → SoFar D.Device start (S.remaining source.old) (K.contents sink.old) disk.old engine.old script.old.taken
+        → SoFar D.Device start (S.remaining source.new) (K.contents sink.new) disk.new engine.new script.new.taken
         × IfSome start.input (λ all. S.remaining source.new ≡ Some []) }
     ensures stops { IfErr result (λ ended. (start : Start D)
-        → SoFar D.Disk start (S.remaining source.old) (K.contents sink.old) disk.old engine.old script.old.taken
-        → Stops D.Disk ended start (S.remaining source.new) (K.contents sink.new) disk.new engine.new.marks.items) }
+        → SoFar D.Device start (S.remaining source.old) (K.contents sink.old) disk.old engine.old script.old.taken
+        → Stops D.Device ended start (S.remaining source.new) (K.contents sink.new) disk.new engine.new.marks.items) }
     ensures read { IsErrOf result Status.ReadFault → Rose (S.faults source.old) (S.faults source.new) }
     ensures write { IsErrOf result Status.WriteFault → Rose (K.faults sink.old) (K.faults sink.new) }
     ensures device { IsErrOf result Status.DeviceFault → Rose (D.faults disk.old) (D.faults disk.new) }
-    ensures at_once { D.faults disk.old < D.faults disk.new → IsErrOf result Status.DeviceFault }
-    ensures last { IsErrOf result Status.DeviceFault → D.failed_at disk.new ≡ D.moment disk.new }
     // Each line that is taken counts a byte at least.
     ensures counts { result ≡ Ok Got.Text → script.old.taken < script.new.taken }
     ensures later { (S.faults source.old ≤ S.faults source.new) × (K.faults sink.old ≤ K.faults sink.new)
@@ -87,7 +83,7 @@ fn advance<S: Source, K: Sink, D: Disk>(
         Err(status) => return Err(status),
     }
     let taken = script.taken + line.len() as u64 + 1;
-    if taken >= LONGEST_SCRIPT {
+    if taken > LONGEST_SCRIPT {
         return Err(Status::ScriptTooLong);
     }
     script.taken = taken;
@@ -105,17 +101,15 @@ pub(crate) fn answer_all<S: Source, K: Sink, D: Disk>(
 ) -> Result<(), Status>
     requires { D.extent disk.old ≡ device_size }
     ensures ended { OnOk result ((start : Start D)
-        → SoFar D.Disk start (S.remaining source.old) (K.contents sink.old) disk.old engine.old script.old.taken
-        → SoFar D.Disk start (S.remaining source.new) (K.contents sink.new) disk.new engine.new script.new.taken
+        → SoFar D.Device start (S.remaining source.old) (K.contents sink.old) disk.old engine.old script.old.taken
+        → SoFar D.Device start (S.remaining source.new) (K.contents sink.new) disk.new engine.new script.new.taken
         × IfSome start.input (λ all. S.remaining source.new ≡ Some [])) }
     ensures stops { IfErr result (λ ended. (start : Start D)
-        → SoFar D.Disk start (S.remaining source.old) (K.contents sink.old) disk.old engine.old script.old.taken
-        → Stops D.Disk ended start (S.remaining source.new) (K.contents sink.new) disk.new engine.new.marks.items) }
+        → SoFar D.Device start (S.remaining source.old) (K.contents sink.old) disk.old engine.old script.old.taken
+        → Stops D.Device ended start (S.remaining source.new) (K.contents sink.new) disk.new engine.new.marks.items) }
     ensures read { IsErrOf result Status.ReadFault → Rose (S.faults source.old) (S.faults source.new) }
     ensures write { IsErrOf result Status.WriteFault → Rose (K.faults sink.old) (K.faults sink.new) }
     ensures device { IsErrOf result Status.DeviceFault → Rose (D.faults disk.old) (D.faults disk.new) }
-    ensures at_once { D.faults disk.old < D.faults disk.new → IsErrOf result Status.DeviceFault }
-    ensures last { IsErrOf result Status.DeviceFault → D.failed_at disk.new ≡ D.moment disk.new }
     ensures later { (S.faults source.old ≤ S.faults source.new) × (K.faults sink.old ≤ K.faults sink.new)
         × (D.faults disk.old ≤ D.faults disk.new) }
     ensures extent { D.extent disk.new ≡ D.extent disk.old }

@@ -79,11 +79,9 @@ fn sync_line<D: Disk>(
     text: &mut Vec<u8>,
 ) -> Result<(), Stop>
     requires { D.extent disk.old ≡ device_size }
-    ensures turns { (m : Machine) → Serves D.Disk disk.old engine.old m
-        → SyncTurns D.Disk m text.old.items text.new.items disk.new engine.new result }
+    ensures turns { (m : Machine) → Serves D.Device disk.old engine.old m
+        → SyncTurns D.Device m text.old.items text.new.items disk.new engine.new result }
     ensures device { IsErrOf result Stop.Device → Rose (D.faults disk.old) (D.faults disk.new) }
-    ensures at_once { D.faults disk.old < D.faults disk.new → IsErrOf result Stop.Device }
-    ensures last { IsErrOf result Stop.Device → D.failed_at disk.new ≡ D.moment disk.new }
     ensures later { D.faults disk.old ≤ D.faults disk.new }
     ensures extent { D.extent disk.new ≡ D.extent disk.old }
 {
@@ -104,11 +102,9 @@ pub(crate) fn turn<D: Disk>(
     requires extent { D.extent disk.old ≡ device_size }
     requires short { length line.now < 2 ^ 32 }
     // The device is asked in a sync alone, and only where commits wait.
-    ensures turns { (m : Machine) → Serves D.Disk disk.old engine.old m
-        → Turns D.Disk m line.now text.old.items text.new.items disk.new engine.new result }
+    ensures turns { (m : Machine) → Serves D.Device disk.old engine.old m
+        → Turns D.Device m line.now text.old.items text.new.items disk.new engine.new result }
     ensures device { IsErrOf result Stop.Device → Rose (D.faults disk.old) (D.faults disk.new) }
-    ensures at_once { D.faults disk.old < D.faults disk.new → IsErrOf result Stop.Device }
-    ensures last { IsErrOf result Stop.Device → D.failed_at disk.new ≡ D.moment disk.new }
     ensures later { D.faults disk.old ≤ D.faults disk.new }
     ensures extent { D.extent disk.new ≡ D.extent disk.old }
 {

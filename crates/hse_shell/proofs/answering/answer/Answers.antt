@@ -12,7 +12,7 @@ returns-in-Err-NoMemory-clause-unreplied g c m s =
     let turns = rw c.in-Err-NoMemory.field-0-is at (c.in-Err-NoMemory.ensures.turns m s) in (
       (
         turns.1,
-        led_of g.D.Disk (λ disk clock image told le now. g.met.D.Disk.counts_now disk clock image told le now)
+        led_of g.D.Device (λ disk clock image told le now. g.met.D.Disk.counts_now disk clock image told le now)
             m c.args.line.now c.turn.new.disk c.turn.new.engine turns.0,
       ),
       Appends-none (g.K.Sink.contents c.args.sink.now),
@@ -48,7 +48,7 @@ returns-in-Err-clause-unreplied g c m s =
     c.deref.ensures.value ∙ turns.1 ∙ ap (λ (l : List ℕ). l ++ answer_line turns.0.answer) c.clear.ensures.items in
     let (front, rest, parts, appended) = c.in-Err.ensures.partly in
     record {
-      led = led_of g.D.Disk (λ disk clock image told le now. g.met.D.Disk.counts_now disk clock image told le now)
+      led = led_of g.D.Device (λ disk clock image told le now. g.met.D.Disk.counts_now disk clock image told le now)
           m c.args.line.now c.turn.new.disk c.turn.new.engine turns.0;
       front = record { front = front; rest = rest; parts = sym said ∙ parts; appended = appended };
     }

@@ -21,11 +21,11 @@ invariant_of-engine g c =
 pub returns-clause-serves : goal.returns-clause-serves
 returns-clause-serves g c =
     let disk = c.start.new.disk in
-    let sized : g.D.Disk.extent disk ≡ device_size = c.start.ensures.extent ∙ c.in_ok-give_size.ensures.sized in
-    serves_opened _ _ c.clock.result c.note.ensures.kept g.D.Disk disk
+    let sized : g.D.Device.extent disk ≡ device_size = c.start.ensures.extent ∙ c.in_ok-give_size.ensures.sized in
+    serves_opened _ _ c.clock.result c.note.ensures.kept g.D.Device disk
     (record { count = c.requires.idle.count; waiting = c.requires.idle.waiting }) c.requires.unmarked c.note.ensures.marks sized
     (omega (arith, c.clock.ensures))
-    (λ told. started (g.D.Disk.seen disk) (g.D.Disk.pending disk) c.in_ok-tail.tail.gate _ (g.met.D.Disk.as_long disk told ∙ sized)
+    (λ told. started (g.D.Device.seen disk) (g.D.Device.pending disk) c.in_ok-tail.tail.place _ (g.met.D.Disk.as_long disk told ∙ sized)
     (c.in_ok-tail.ensures.started told) c.requires.base c.in_ok-tail.ensures.tail (c.in_ok-tail.ensures.durable told))
-    (λ told image might. only_seen (g.D.Disk.seen disk) image (g.D.Disk.pending disk) (c.in_ok-tail.ensures.durable told)
-    (g.met.D.Disk.only_now disk image told (subst (λ (clock : ℕ). g.D.Disk.could disk clock image) c.clock.ensures might)))
+    (λ told image might. only_seen (g.D.Device.seen disk) image (g.D.Device.pending disk) (c.in_ok-tail.ensures.durable told)
+    (g.met.D.Disk.only_now disk image told (subst (λ (clock : ℕ). g.D.Device.could disk clock image) c.clock.ensures might)))

@@ -19,8 +19,8 @@ returns-in-Err-NotFormed-clause-ends g c =
     let now = g.K.Sink.faults c.refuse.new.sink in
     let marks = c.unopened-in-Err-NotFormed.result.marks.items in
     let refused = c.in-Err-NotFormed.ensures.refused c.in-Err-NotFormed.place (ap Err c.in-Err-NotFormed.field-0-is) in
-    subst (λ (ended : Status). EndsTold g.D.Disk ended start left after faults now c.open.new.disk marks) (sym c.unopened-in-Err-NotFormed.ensures.status)
-    (ends_refused g.D.Disk c.refuse.result start left after faults now c.open.new.disk marks c.refuse.ensures.status
+    subst (λ (ended : Status). EndsTold g.D.Device ended start left after faults now c.open.new.disk marks) (sym c.unopened-in-Err-NotFormed.ensures.status)
+    (ends_refused g.D.Device c.refuse.result start left after faults now c.open.new.disk marks c.refuse.ensures.status
     (λ is. record {
       place = c.in-Err-NotFormed.place;
       refused = λ told. (refused told).0;

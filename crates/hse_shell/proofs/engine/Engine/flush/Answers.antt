@@ -27,12 +27,12 @@ returns-clause-synced g c m s =
           flush_logged m s.stands.synced within numbers s.stands.logged some _ is _ _ _ _ _ _ l
           (g.met.D.Disk.as_long c.append.new.disk told ∙ c.append.ensures.extent ∙ s.sized)
           (c.in-Ok-append.ensures.appended told l.stores.loads.sequence l.stores.loads.payloads l.tail l.stores.loads.gated)
-          c.in-Ok-append.ensures.tail (c.in-Ok-append.ensures.durable told);
-      marks_are = marks_later _ _ _ _ c.append.ensures.clock s.marks_are;
+          c.in-Ok-append.ensures.answer.0 (c.in-Ok-append.ensures.durable told);
+      marks_are = marks_later _ _ _ _ c.append.ensures.calls.forward s.marks_are;
       marks = λ told. let l = s.logged told in
           flush_marks m s.stands.synced within numbers s.stands.logged some _ is _ _ _ _ _ _ _ l
           (c.append.ensures.crash told l.stores.loads.sequence l.stores.loads.payloads l.tail l.stores.loads.gated (subst (IsApart log_region) (sym l.durable) tt))
-          c.append.ensures.clock _ (s.marks told);
+          c.append.ensures.calls.forward _ (s.marks told);
     }
 
 pub returns-in-Err-Device-clause-marked : goal.returns-in-Err-Device-clause-marked
@@ -44,9 +44,9 @@ returns-in-Err-Device-clause-marked g c failed m s =
     c.in-Ok.ensures ∙ c.deref.ensures.value ∙ c.write_count.ensures.items
     ∙ ap (λ (n : ℕ). big_bytes 4 n ++ drop 4 c.args.self.now.waiting.items) s.stands.count
     ∙ ap (λ (l : List ℕ). big_bytes 4 (length (unsynced m)) ++ l) s.stands.waiting in
-    marked g.D.Disk g.met.D.Disk.counts_now c.append.new.disk c.args.self.now.marks.items m
-    (marks_later _ _ _ _ c.append.ensures.clock s.marks_are)
+    marked g.D.Device g.met.D.Disk.counts_now c.append.new.disk c.args.self.now.marks.items m
+    (marks_later _ _ _ _ c.append.ensures.calls.forward s.marks_are)
     (λ told. let l = s.logged told in
     failed_marks m s.stands.synced within numbers s.stands.logged some _ is _ _ _ _ _ _ _ l
     (c.append.ensures.crash told l.stores.loads.sequence l.stores.loads.payloads l.tail l.stores.loads.gated (subst (IsApart log_region) (sym l.durable) tt))
-    c.append.ensures.clock _ (s.marks told))
+    c.append.ensures.calls.forward _ (s.marks told))
