@@ -34,6 +34,7 @@ pub mod PassLemmas
 pub mod CoreGoes
 pub mod StandLemmas
 pub mod RowCases
+pub mod PhaseCases
 pub mod CoreAnswers
 mod MeaningCases
 pub mod CoreLimits

@@ -23,38 +23,38 @@ abbrev pub started : Sizes → Script
 started sizes = begins_with (life (formatted sizes))
 
 -- no script here reopens
-abbrev nothing : Found
+abbrev pub nothing : Found
 nothing = has_version 0
 
-abbrev led : Script → List Line → Script
+abbrev pub led : Script → List Line → Script
 led s [] = s
 led s (line ∷ lines) = led (led_to nothing s line (answer_of nothing s line)) lines
 
-abbrev answers : Script → List Line → List (Answer (List ℕ))
+abbrev pub answers : Script → List Line → List (Answer (List ℕ))
 answers s [] = []
 answers s (line ∷ lines) = answer_of nothing s line ∷ answers (led_to nothing s line (answer_of nothing s line)) lines
 
 -- ---- lines
 
-abbrev put_in : List ℕ → List ℕ → List ℕ → List ℕ → Line
+abbrev pub put_in : List ℕ → List ℕ → List ℕ → List ℕ → Line
 put_in name store key bytes = write_by (someone name) store (Put key bytes)
 
 abbrev pdel_in : List ℕ → List ℕ → List ℕ → Line
 pdel_in name store prefix = write_by (someone name) store (PDel prefix)
 
-abbrev put_out : List ℕ → List ℕ → List ℕ → Line
+abbrev pub put_out : List ℕ → List ℕ → List ℕ → Line
 put_out store key bytes = write_by nobody store (Put key bytes)
 
-abbrev a : List ℕ
+abbrev pub a : List ℕ
 a = codes "a"
 
-abbrev b : List ℕ
+abbrev pub b : List ℕ
 b = codes "b"
 
-abbrev s : List ℕ
+abbrev pub s : List ℕ
 s = codes "s"
 
-abbrev one : List ℕ
+abbrev pub one : List ℕ
 one = codes "1"
 
 -- ---- transactions
