@@ -4,8 +4,8 @@ ghost use Rattle.hse_rows.specs.declared.row.Row.{Row as a_row};
 ghost use Rattle.hse_rows.specs.Meaning.{own_at, covered_at};
 ghost use Rattle.hse_rows.specs.RowSets.{AreRows, row_of, row_by, place_of};
 
-use hse_io::NoMemory;
 use crate::RowRef;
+use hse_io::NoMemory;
 use std::alloc::Global;
 
 /// A list of rows: the prefix deletes by prefix, then the changes of keys by key, each key and each
