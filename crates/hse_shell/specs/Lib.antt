@@ -8,7 +8,6 @@ pub mod LogText
 pub mod Logged
 pub mod Machine
 pub mod Marks
-pub mod Pieces
 pub mod Replayed
 pub mod Replies
 pub mod ReplyView

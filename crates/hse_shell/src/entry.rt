@@ -3,7 +3,7 @@ ghost use Rattle.std.specs.Prelude.{◌≡◌, ◌<◌, ◌^◌, ◌++◌, lengt
 ghost use Rattle.hse_shell.specs.Change.{put, del};
 ghost use Rattle.hse_shell.specs.LogText.{entry_text, charge_of};
 
-use crate::append::append;
+use hse_fields::put_pieces;
 use hse_io::NoMemory;
 
 /// The id of the one store.
@@ -31,7 +31,7 @@ pub(crate) fn push_put(
         (into.new.items ≡ into.old.items ++ entry_text number (put key.now value.now)) }
     ensures unchanged { OnErr result (into.new.items ≡ into.old.items) }
 {
-    append(
+    put_pieces(
         into,
         &[
             &number.to_be_bytes(),
@@ -53,7 +53,7 @@ pub(crate) fn push_del(into: &mut Vec<u8>, number: u64, key: &[u8]) -> Result<()
         (into.new.items ≡ into.old.items ++ entry_text number (del key.now)) }
     ensures unchanged { OnErr result (into.new.items ≡ into.old.items) }
 {
-    append(
+    put_pieces(
         into,
         &[
             &number.to_be_bytes(),

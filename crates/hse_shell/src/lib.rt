@@ -2,7 +2,6 @@
 #![tactic(auto)]
 
 mod answering;
-mod append;
 mod closing;
 mod command;
 mod ending;

@@ -3,7 +3,7 @@ ghost use Rattle.std.specs.Prelude.{◌≡◌, [], ◌∷◌, ◌++◌, decimal,
 ghost use Rattle.hse_shell.specs.Replies.{answer_line, opened_text, closed_text, not_formed_text};
 ghost use Rattle.hse_shell.specs.ReplyView.{answer_of};
 
-use crate::append::append;
+use hse_fields::put_pieces;
 use hse_io::NoMemory;
 use itoa::Buffer;
 
@@ -34,17 +34,17 @@ pub(crate) fn print(reply: &Reply<'_>, into: &mut Vec<u8>) -> Result<(), NoMemor
 {
     match reply {
         Reply::Ok(number) => numbered_line(b"ok ", *number, into),
-        Reply::Value(bytes) => append(into, &[b"value ", bytes, b"\n"]),
-        Reply::None => append(into, &[b"none\n"]),
-        Reply::BadLine => append(into, &[b"err line\n"]),
-        Reply::NoMemory => append(into, &[b"err memory\n"]),
+        Reply::Value(bytes) => put_pieces(into, &[b"value ", bytes, b"\n"]),
+        Reply::None => put_pieces(into, &[b"none\n"]),
+        Reply::BadLine => put_pieces(into, &[b"err line\n"]),
+        Reply::NoMemory => put_pieces(into, &[b"err memory\n"]),
         Reply::KeyLength(bytes) => numbered_line(b"err key-length ", *bytes, into),
         Reply::LogFull(need, room) => {
             let mut need_digits = Buffer::new();
             let need = need_digits.format(*need).as_bytes();
             let mut room_digits = Buffer::new();
             let room = room_digits.format(*room).as_bytes();
-            append(into, &[b"err log-full ", need, b" ", room, b"\n"])
+            put_pieces(into, &[b"err log-full ", need, b" ", room, b"\n"])
         }
     }
 }
@@ -83,5 +83,5 @@ fn numbered_line(words: &[u8], number: u64, into: &mut Vec<u8>) -> Result<(), No
     ensures unchanged { OnErr result (into.new.items ≡ into.old.items) }
 {
     let mut digits = Buffer::new();
-    append(into, &[words, digits.format(number).as_bytes(), b"\n"])
+    put_pieces(into, &[words, digits.format(number).as_bytes(), b"\n"])
 }

@@ -5,6 +5,6 @@ use Rattle.hse_shell.proofs.EntryLemmas.{del_spelled}
 use Rattle.hse_shell.proofs.entry.push_del.Goals as goal
 
 pub returns-clause-written : goal.returns-clause-written
-returns-clause-written c = on_ok_weaker c.append.result
+returns-clause-written c = on_ok_weaker c.put_pieces.result
     (λ written. written ∙ ap (λ (l : List ℕ). c.args.into.now.items ++ l) (del_spelled c.args.number c.args.key.now))
-    (simp (c.to_be_bytes.ensures, c.to_be_bytes-2.ensures, c.to_be_bytes-3.ensures, c.to_be_bytes-4.ensures, append-nil) at c.append.ensures.written)
+    (simp (c.to_be_bytes.ensures, c.to_be_bytes-2.ensures, c.to_be_bytes-3.ensures, c.to_be_bytes-4.ensures, append-nil) at c.put_pieces.ensures.written)
