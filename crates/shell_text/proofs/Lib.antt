@@ -1,5 +1,12 @@
+pub mod AnsweredCases
+pub mod AskedCases
 pub mod LineLemmas
 pub mod PartLemmas
 pub mod ReadingLemmas
 pub mod SaysLemmas
+pub mod ShapeLemmas
 pub mod SpacedLemmas
+pub mod SpellingLemmas
+pub mod TakeLemmas
+pub mod VerbLemmas
+pub mod WordLemmas

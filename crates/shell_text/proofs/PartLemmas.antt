@@ -1,66 +1,73 @@
 -- A fault in one of the words behind a verb.
-use Rattle.std.proofs.Common.{◌≡◌, ℕ, ◌<◌, ◌≤◌, List, [], ◌∷◌, Result, Err, length, get_or, subst, sym, ◌∙◌, ap, arith}
-use Rattle.std.proofs.lemmas.List.{get_or-map}
+use Rattle.std.proofs.Common.{◌≡◌, ◌≢◌, ℕ, ◌<◌, List, [], ◌∷◌, Result, Ok, Err, length, map, get_or, suc, subst, sym, ◌∙◌, ap, refl}
 use denote.Ref.{Bor}
-use Rattle.shell_text.specs.declared.line.Actor.{Actor}
 use Rattle.shell_text.specs.declared.line.Line.{Line}
 use Rattle.shell_text.specs.declared.line.TextFault.{TextFault}
-use Rattle.shell_text.specs.declared.verb.Verb.TheVariants as verb
-use Rattle.shell_text.specs.Grammar.{AreOfKey, Says}
+use Rattle.shell_text.specs.declared.line.TextFault.TheVariants.{BadLine, NoMemory}
+use Rattle.shell_text.specs.declared.verb.Verb.{Verb}
+use Rattle.shell_text.specs.Grammar.{AreWords, Says}
 use Rattle.shell_text.specs.Reading.{IsReading}
 use Rattle.shell_text.specs.Texts.{texts}
 use Rattle.shell_text.specs.Verbs.{verb_word}
-use Rattle.shell_text.specs.Words.{IsItem}
+use Rattle.shell_text.specs.Words.{Word, no_word, IsWord}
 use Rattle.shell_text.proofs.ReadingLemmas.{handed_on}
-use Rattle.shell_text.proofs.SaysLemmas.{only_put}
+use Rattle.shell_text.proofs.SaysLemmas.{Only, only}
+use Rattle.shell_text.proofs.VerbLemmas.{Fields, made}
+use Rattle.shell_text.proofs.WordLemmas.{word_at, as_many}
 
--- a word among the texts
-pub text_at : (words : List (Bor (List ℕ))) (place : ℕ) (d : Bor (List ℕ)) (all : List (List ℕ)) → texts words ≡ all → place < length words
-    → get_or all place [] ≡ (get_or words place d).now
-text_at words place d all same below =
-    ap (λ (found : List (List ℕ)). get_or found place []) (sym same) ∙ get_or-map (λ word. word.now) words place d [] below
-
--- no key, no store's key
-pub without_key : (words : List (Bor (List ℕ))) (d : Bor (List ℕ)) (fault : TextFault) (r : Result (Actor × List ℕ × List ℕ) TextFault)
-    → (e : TextFault) × (r ≡ Err e) × (e ≡ fault) → 3 ≤ length words
-    → IsReading (λ bytes. IsItem (get_or words 2 d).now bytes) (Err fault)
-    → IsReading (λ of. AreOfKey (texts words) of.0 of.1 of.2) r
-without_key words d fault r same long none =
-    handed_on _ _ r fault same none key
+-- where a word stands for nothing, the words do not stand for all that they should
+pub word_fails : {A B : Type 0} (part : A → Word) (meant : B → List Word) (words : List (Bor (List ℕ))) (place : ℕ) (d : Bor (List ℕ))
+    (fault : TextFault) (r : Result B TextFault) → (e : TextFault) × (r ≡ Err e) × (e ≡ fault)
+    → IsReading (λ of. IsWord (part of) (get_or words place d).now) (Err fault) → place < length words
+    → ((whole : B) → (of : A) × (get_or (meant whole) place no_word ≡ part of))
+    → IsReading (λ whole. AreWords (meant whole) (texts words)) r
+word_fails {A} {B} part meant words place d fault r same none below at =
+    handed_on _ _ r fault same none found
   where
-    key : (of : Actor × List ℕ × List ℕ) → AreOfKey (texts words) of.0 of.1 of.2
-        → (bytes : List ℕ) × IsItem (get_or words 2 d).now bytes
-    key of are =
-        let below : 2 < length words = omega arith in
-        let word : are.key_word ≡ (get_or words 2 d).now = text_at words 2 d _ are.spelled below in
-        (of.2, subst (λ (w : List ℕ). IsItem w of.2) word are.key_item)
+    found : (whole : B) → AreWords (meant whole) (texts words) → (of : A) × IsWord (part of) (get_or words place d).now
+    found whole says =
+        let is = at whole in
+        (is.0, subst (λ (w : Word). IsWord w (get_or words place d).now) is.1 (word_at (meant whole) words place d says below))
 
--- no key, no line that sets one
-pub put_without_key : (words : List (Bor (List ℕ))) (d : Bor (List ℕ)) (fault : TextFault) (r : Result Line TextFault)
-    → (e : TextFault) × (r ≡ Err e) × (e ≡ fault) → 4 ≤ length words
-    → IsReading (λ bytes. IsItem (get_or words 2 d).now bytes) (Err fault)
-    → IsReading (λ line. Says line (verb_word verb.Put ∷ texts words)) r
-put_without_key words d fault r same long none =
-    handed_on _ _ r fault same none key
-  where
-    key : (line : Line) → Says line (verb_word verb.Put ∷ texts words) → (bytes : List ℕ) × IsItem (get_or words 2 d).now bytes
-    key line says =
-        let of = only_put (texts words) line says in
-        let below : 2 < length words = omega arith in
-        let word : of.are.key_word ≡ (get_or words 2 d).now = text_at words 2 d _ of.are.spelled below in
-        (of.key, subst (λ (w : List ℕ). IsItem w of.key) word of.are.key_item)
+same_number : (words : List (Bor (List ℕ))) → length (texts words) ≡ length words
+same_number [] = refl
+same_number (word ∷ words) = ap suc (same_number words)
 
--- no value, no line that sets one
-pub put_without_value : (words : List (Bor (List ℕ))) (d : Bor (List ℕ)) (fault : TextFault) (r : Result Line TextFault)
-    → (e : TextFault) × (r ≡ Err e) × (e ≡ fault) → 4 ≤ length words
-    → IsReading (λ bytes. IsItem (get_or words 3 d).now bytes) (Err fault)
-    → IsReading (λ line. Says line (verb_word verb.Put ∷ texts words)) r
-put_without_value words d fault r same long none =
-    handed_on _ _ r fault same none value
+-- more or fewer words than they should be
+pub other_length : {B : Type 0} (meant : B → List Word) (words : List (Bor (List ℕ))) (many : ℕ) → ((whole : B) → length (meant whole) ≡ many)
+    → length words ≢ many → (whole : B) → ¬ (AreWords (meant whole) (texts words))
+other_length meant words many so other whole says =
+    other (sym (same_number words) ∙ as_many (meant whole) (texts words) says ∙ so whole)
+
+-- where the words behind a verb are not what they should, there is no line
+pub line_fails : {B : Type 0} (said : Verb) (meant : B → List Word) (rest : List (List ℕ)) (fault : TextFault) (r : Result Line TextFault)
+    → (e : TextFault) × (r ≡ Err e) × (e ≡ fault) → IsReading (λ whole. AreWords (meant whole) rest) (Err fault)
+    → ((of : Fields said) → Says (made said of) (verb_word said ∷ rest) → (whole : B) × AreWords (meant whole) rest)
+    → IsReading (λ line. Says line (verb_word said ∷ rest)) r
+line_fails {B} said meant rest fault r same none behind =
+    handed_on _ _ r fault same none found
   where
-    value : (line : Line) → Says line (verb_word verb.Put ∷ texts words) → (bytes : List ℕ) × IsItem (get_or words 3 d).now bytes
-    value line says =
-        let of = only_put (texts words) line says in
-        let below : 3 < length words = omega arith in
-        let word : of.are.value_word ≡ (get_or words 3 d).now = text_at words 3 d _ of.are.spelled below in
-        (of.value, subst (λ (w : List ℕ). IsItem w of.value) word of.are.value_item)
+    found : (line : Line) → Says line (verb_word said ∷ rest) → (whole : B) × AreWords (meant whole) rest
+    found line says = let this = only said rest line says in behind this.fields this.told
+
+-- nothing stands for no words
+pub none_behind : (rest : List (List ℕ)) → AreWords [] rest → rest ≡ []
+none_behind [] says = refl
+none_behind (word ∷ rest) says = absurd says
+
+alone_so : (said : Verb) (line : Line) (rest : List (List ℕ)) (r : Result Line TextFault)
+    → ((of : Fields said) → Says (made said of) (verb_word said ∷ rest) → AreWords [] rest) → Says line (verb_word said ∷ [])
+    → IsReading (λ read. (read ≡ line) × (rest ≡ [])) r → IsReading (λ read. Says read (verb_word said ∷ rest)) r
+alone_so said line rest (Ok read) none says is =
+    subst (λ (words : List (List ℕ)). Says read (verb_word said ∷ words)) (sym is.1)
+    (subst (λ (l : Line). Says l (verb_word said ∷ [])) (sym is.0) says)
+alone_so said line rest (Err NoMemory) none says is = tt
+alone_so said line rest (Err BadLine) none says is =
+    λ read told. (let this = only said rest read told in is line (refl, none_behind rest (none this.fields this.told)))
+
+-- a verb alone
+pub alone_read : (verb said : Verb) (line : Line) (rest : List (List ℕ)) (r : Result Line TextFault) → verb ≡ said
+    → ((of : Fields said) → Says (made said of) (verb_word said ∷ rest) → AreWords [] rest) → Says line (verb_word said ∷ [])
+    → IsReading (λ read. (read ≡ line) × (rest ≡ [])) r → IsReading (λ read. Says read (verb_word verb ∷ rest)) r
+alone_read verb said line rest r same none says is =
+    subst (λ (v : Verb). IsReading (λ read. Says read (verb_word v ∷ rest)) r) (sym same) (alone_so said line rest r none says is)

@@ -13,8 +13,8 @@ use Rattle.hse_rows.specs.Names.{IsName, is_name_byte}
 use Rattle.hse_rows.specs.declared.store.Mode.{Mode}
 use Rattle.hse_rows.specs.declared.store.Mode.TheVariants.{Plain, Tx}
 use Rattle.shell_text.specs.declared.line.Actor.{Actor}
-use Rattle.shell_text.specs.declared.line.Actor.TheVariants.{At}
-use Rattle.shell_text.specs.Words.{spaced, is_plain, is_printable, IsHexed, IsItem, mode_word, actor_word}
+use Rattle.shell_text.specs.declared.line.Actor.TheVariants.{At, Name}
+use Rattle.shell_text.specs.Words.{spaced, is_plain, is_printable, IsHexed, IsItem, mode_word, direction_word, IsActor}
 
 abbrev pub is_space : ℕ → Bool
 is_space byte = byte == 32
@@ -71,8 +71,13 @@ pub mode_is_whole : (mode : Mode) → is_whole (mode_word mode) ≡ true
 mode_is_whole Plain = refl
 mode_is_whole Tx = refl
 
-pub actor_is_whole : (actor : Actor) → is_whole (actor_word actor) ≡ true
-actor_is_whole At = refl
+pub direction_is_whole : (reverse : Bool) → is_whole (direction_word reverse) ≡ true
+direction_is_whole false = refl
+direction_is_whole true = refl
+
+pub actor_is_whole : (word : List ℕ) (actor : Actor) → IsActor word actor → is_whole word ≡ true
+actor_is_whole word At is = ap is_whole is
+actor_is_whole word (Name name) is = ap is_whole is.0 ∙ name_is_whole name is.1
 
 pub number_is_whole : (number : ℕ) → number < 2 ^ 64 → is_whole (decimal number) ≡ true
 number_is_whole number small = decimal_by_steps (λ n digits. is_whole digits ≡ true) one_digit more_digits number small

@@ -1,48 +1,53 @@
 -- The lines of a script.
-use Rattle.std.specs.Prelude.{◌≡◌, ℕ, ◌^◌, ◌<◌, ◌⊎◌, List, [], ◌∷◌, codes, decimal}
-use Rattle.hse_rows.specs.Names.{IsName}
-use Rattle.shell_text.specs.declared.line.Actor.{Actor}
+use Rattle.std.specs.Prelude.{◌≡◌, ℕ, ◌⊎◌, List, [], ◌∷◌, codes}
+use Rattle.shell_text.specs.declared.line.TakeText.{TakeText}
+use Rattle.shell_text.specs.declared.line.TakeText.TheVariants as turn
 use Rattle.shell_text.specs.declared.line.Line.{Line}
-use Rattle.shell_text.specs.declared.line.Line.TheVariants.{Silent, CreateStore, DropStore, Stores, Put, Del, Get, Sync, Info, Reopen}
-use Rattle.shell_text.specs.Words.{spaced, IsItem, actor_word, mode_word}
+use Rattle.shell_text.specs.declared.line.Line.TheVariants.{Silent, CreateStore, DropStore, Stores, Begin, Put, Del, Pdel, Get, Commit, Abort, Cursor, Seek, SeekRange, Read, Update, CloseCursor, Take, Write, End, Sync, Info, Reopen}
+use Rattle.shell_text.specs.Words.{spaced, Word, no_word, this, actor_of, name, mode_of, number, direction, item, IsWord}
 
--- the words say who asks, a store's name and a key
-pub record AreOfKey (words : List (List ℕ)) (actor : Actor) (store key : List ℕ) : Type 0 where
-  pub key_word : List ℕ
-  pub spelled : words ≡ actor_word actor ∷ store ∷ key_word ∷ []
-  pub name : IsName store
-  pub key_item : IsItem key_word key
+-- what is taken
+abbrev pub taking : TakeText → List Word
+taking turn.Sync = this (codes "sync") ∷ []
+taking (turn.Create store mode prefix) = this (codes "create") ∷ name store ∷ mode_of mode ∷ number prefix ∷ []
+taking (turn.Drop store) = this (codes "drop") ∷ name store ∷ []
 
--- the words say who asks, a store's name, a key and a value
-pub record AreOfPair (words : List (List ℕ)) (actor : Actor) (store key value : List ℕ) : Type 0 where
-  pub key_word : List ℕ
-  pub value_word : List ℕ
-  pub spelled : words ≡ actor_word actor ∷ store ∷ key_word ∷ value_word ∷ []
-  pub name : IsName store
-  pub key_item : IsItem key_word key
-  pub value_item : IsItem value_word value
+-- what the words of a line stand for, one by one
+abbrev pub spelling : Line → List Word
+spelling Silent = no_word ∷ []
+spelling (CreateStore store mode prefix) = this (codes "create-store") ∷ name store ∷ mode_of mode ∷ number prefix ∷ []
+spelling (DropStore store) = this (codes "drop-store") ∷ name store ∷ []
+spelling Stores = this (codes "stores") ∷ []
+spelling (Begin transaction) = this (codes "begin") ∷ name transaction ∷ []
+spelling (Put actor store key value) = this (codes "put") ∷ actor_of actor ∷ name store ∷ item key ∷ item value ∷ []
+spelling (Del actor store key) = this (codes "del") ∷ actor_of actor ∷ name store ∷ item key ∷ []
+spelling (Pdel actor store prefix) = this (codes "pdel") ∷ actor_of actor ∷ name store ∷ item prefix ∷ []
+spelling (Get actor store key) = this (codes "get") ∷ actor_of actor ∷ name store ∷ item key ∷ []
+spelling (Commit transaction) = this (codes "commit") ∷ name transaction ∷ []
+spelling (Abort transaction) = this (codes "abort") ∷ name transaction ∷ []
+spelling (Cursor cursor actor store reverse filter) = this (codes "cursor") ∷ name cursor ∷ actor_of actor ∷ name store ∷ direction reverse ∷ item filter ∷ []
+spelling (Seek cursor key) = this (codes "seek") ∷ name cursor ∷ item key ∷ []
+spelling (SeekRange cursor first last) = this (codes "seek-range") ∷ name cursor ∷ item first ∷ item last ∷ []
+spelling (Read cursor) = this (codes "read") ∷ name cursor ∷ []
+spelling (Update cursor) = this (codes "update") ∷ name cursor ∷ []
+spelling (CloseCursor cursor) = this (codes "close-cursor") ∷ name cursor ∷ []
+spelling (Take wish) = this (codes "take") ∷ taking wish
+spelling Write = this (codes "write") ∷ []
+spelling End = this (codes "end") ∷ []
+spelling Sync = this (codes "sync") ∷ []
+spelling Info = this (codes "info") ∷ []
+spelling Reopen = this (codes "reopen") ∷ []
 
--- the words are this first one and others, of which P holds
-abbrev pub Follow : List ℕ → (List (List ℕ) → Type 0) → List (List ℕ) → Type 0
-Follow first P words = (rest : List (List ℕ)) × ((words ≡ first ∷ rest) × P rest)
+-- the words, one by one, are words for these
+abbrev pub AreWords : List Word → List (List ℕ) → Type 0
+AreWords [] [] = Unit {0}
+AreWords [] (word ∷ words) = ⊥
+AreWords (meant ∷ more) [] = ⊥
+AreWords (meant ∷ more) (word ∷ words) = IsWord meant word × AreWords more words
 
 -- the words say what the line asks for
 abbrev pub Says : Line → List (List ℕ) → Type 0
-Says Silent words = ⊥
-Says (CreateStore store mode prefix) words =
-    (words ≡ codes "create-store" ∷ store ∷ mode_word mode ∷ decimal prefix ∷ [])
-    × IsName store × (prefix < 2 ^ 64)
-Says (DropStore store) words = (words ≡ codes "drop-store" ∷ store ∷ []) × IsName store
-Says Stores words = words ≡ codes "stores" ∷ []
-Says (Put actor store key value) words =
-    Follow (codes "put") (λ rest. AreOfPair rest actor store key value) words
-Says (Del actor store key) words =
-    Follow (codes "del") (λ rest. AreOfKey rest actor store key) words
-Says (Get actor store key) words =
-    Follow (codes "get") (λ rest. AreOfKey rest actor store key) words
-Says Sync words = words ≡ codes "sync" ∷ []
-Says Info words = words ≡ codes "info" ∷ []
-Says Reopen words = words ≡ codes "reopen" ∷ []
+Says line words = AreWords (spelling line) words
 
 -- the line is empty or begins with #
 abbrev pub IsSilent : List ℕ → Type 0

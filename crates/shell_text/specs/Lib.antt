@@ -1,3 +1,5 @@
+pub mod Answered
+pub mod Asked
 pub mod Grammar
 pub mod Reading
 pub mod Replies

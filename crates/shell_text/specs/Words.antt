@@ -1,9 +1,10 @@
 -- The words of a line.
-use Rattle.std.specs.Prelude.{◌≡◌, ℕ, List, ◌++◌, ◌⊎◌, codes, Bool, ◌&&◌, not, nat_le, eqb, length, Ok, IsTrue}
+use Rattle.std.specs.Prelude.{◌≡◌, ℕ, ◌^◌, ◌<◌, List, ◌++◌, ◌⊎◌, codes, decimal, Bool, true, false, ◌&&◌, not, nat_le, eqb, length, Ok, IsTrue}
 use Rattle.std.specs.List.{join_with_byte, list_all, starts_with}
 use Rattle.hex.specs.Hex.{decode_of}
 use Rattle.shell_text.specs.declared.line.Actor.{Actor}
-use Rattle.shell_text.specs.declared.line.Actor.TheVariants.{At}
+use Rattle.shell_text.specs.declared.line.Actor.TheVariants.{At, Name}
+use Rattle.hse_rows.specs.Names.{IsName}
 use Rattle.hse_rows.specs.declared.store.Mode.{Mode}
 use Rattle.hse_rows.specs.declared.store.Mode.TheVariants.{Plain, Tx}
 
@@ -36,6 +37,43 @@ abbrev pub mode_word : Mode → List ℕ
 mode_word Plain = codes "plain"
 mode_word Tx = codes "tx"
 
--- the word for who reads or writes
-abbrev pub actor_word : Actor → List ℕ
-actor_word At = codes "@"
+-- the word for a direction, where true is reverse
+abbrev pub direction_word : Bool → List ℕ
+direction_word false = codes "fwd"
+direction_word true = codes "rev"
+
+-- the word is this name
+abbrev pub IsNameWord : List ℕ → List ℕ → Type 0
+IsNameWord word name = (word ≡ name) × IsName name
+
+-- the word says who reads or writes
+abbrev pub IsActor : List ℕ → Actor → Type 0
+IsActor word At = word ≡ codes "@"
+IsActor word (Name name) = IsNameWord word name
+
+-- the word is this number, with no sign and no leading zero
+abbrev pub IsNumber : List ℕ → ℕ → Type 0
+IsNumber word number = (word ≡ decimal number) × (number < 2 ^ 64)
+
+-- what a word of a line stands for
+pub data Word : Type 0 where
+  -- no word stands for it
+  no_word : Word
+  -- the word itself
+  this : List ℕ → Word
+  actor_of : Actor → Word
+  name : List ℕ → Word
+  mode_of : Mode → Word
+  number : ℕ → Word
+  direction : Bool → Word
+  item : List ℕ → Word
+
+abbrev pub IsWord : Word → List ℕ → Type 0
+IsWord no_word word = ⊥
+IsWord (this text) word = word ≡ text
+IsWord (actor_of actor) word = IsActor word actor
+IsWord (name text) word = IsNameWord word text
+IsWord (mode_of mode) word = word ≡ mode_word mode
+IsWord (number value) word = IsNumber word value
+IsWord (direction reverse) word = word ≡ direction_word reverse
+IsWord (item bytes) word = IsItem word bytes

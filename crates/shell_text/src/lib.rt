@@ -2,22 +2,30 @@
 #![tactic(auto)]
 
 mod append;
+mod cursor_lines;
+mod fields;
 mod item;
 mod item_text;
 mod laws;
 mod line;
+mod line_text;
 mod parse;
 mod plain;
 mod print;
+mod refusal_text;
 mod reply;
 mod split;
+mod store_lines;
 mod store_text;
+mod take_lines;
 mod verb;
 mod words;
+mod write_lines;
 
 pub use item::Item;
 pub use laws::{items_read_back, lines_have_one_meaning};
-pub use line::{Actor, Line, TextFault};
+pub use line::{Actor, Line, TakeText, TextFault};
 pub use parse::parse_line;
 pub use print::print_reply;
 pub use reply::{Refused, RegionText, Reply, StoreText, StoreTexts};
+pub use reply::{DoneText, PhaseText, Refused, RegionText, Reply, StoreText, StoreTexts, TurnText};

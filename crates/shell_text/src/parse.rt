@@ -1,16 +1,17 @@
 //! Lines, read.
 ghost use Rattle.std.specs.Prelude.{◌≡◌, ◌↔◌, [], ◌∷◌, IsTrue};
-ghost use Rattle.shell_text.specs.Grammar.{AreOfKey, Says, IsSilent, Means};
+ghost use Rattle.shell_text.specs.Grammar.{Says, IsSilent, Means};
 ghost use Rattle.shell_text.specs.Reading.{IsReading};
 ghost use Rattle.shell_text.specs.Texts.{texts};
 ghost use Rattle.shell_text.specs.Verbs.{verb_word};
 
-use crate::item::Item;
-use crate::line::{Actor, Line, TextFault};
+use crate::cursor_lines::{close_cursor, cursor, read_cursor, seek, seek_range, update};
+use crate::line::{Line, TextFault};
 use crate::split::words_of;
+use crate::store_lines::{create_store, drop_store};
+use crate::take_lines::take;
 use crate::verb::{Verb, verb_of};
-use crate::words::{actor, item, mode, name, number};
-use hse_rows::StoreName;
+use crate::write_lines::{abort, begin, commit, del, get, pdel, put};
 use std::alloc::Global;
 
 /// What a line asks for. `BadLine` comes exactly where the line is outside the grammar. A silent line takes no
@@ -58,10 +59,23 @@ fn read_rest(alloc: Global, verb: Verb, rest: &[&[u8]]) -> Result<Line, TextFaul
     match verb {
         Verb::CreateStore => create_store(alloc, rest),
         Verb::DropStore => drop_store(alloc, rest),
+        Verb::Begin => begin(alloc, rest),
         Verb::Put => put(alloc, rest),
         Verb::Del => del(alloc, rest),
+        Verb::Pdel => pdel(alloc, rest),
         Verb::Get => get(alloc, rest),
+        Verb::Commit => commit(alloc, rest),
+        Verb::Abort => abort(alloc, rest),
+        Verb::Cursor => cursor(alloc, rest),
+        Verb::Seek => seek(alloc, rest),
+        Verb::SeekRange => seek_range(alloc, rest),
+        Verb::Read => read_cursor(alloc, rest),
+        Verb::Update => update(alloc, rest),
+        Verb::CloseCursor => close_cursor(alloc, rest),
+        Verb::Take => take(alloc, rest),
         Verb::Stores => alone(rest, Line::Stores),
+        Verb::Write => alone(rest, Line::Write),
+        Verb::End => alone(rest, Line::End),
         Verb::Sync => alone(rest, Line::Sync),
         Verb::Info => alone(rest, Line::Info),
         Verb::Reopen => alone(rest, Line::Reopen),
@@ -77,71 +91,4 @@ fn alone(rest: &[&[u8]], line: Line) -> Result<Line, TextFault>
     } else {
         Err(TextFault::BadLine)
     }
-}
-
-/// A store's name, its mode and the length of its prefixes.
-fn create_store(alloc: Global, rest: &[&[u8]]) -> Result<Line, TextFault>
-    ensures { IsReading (λ line. Says line (verb_word Verb.CreateStore ∷ texts rest.now)) result }
-{
-    let [store, access, prefix] = rest else {
-        return Err(TextFault::BadLine);
-    };
-    let store = name(alloc, store)?;
-    let mode = mode(access)?;
-    let prefix = number(prefix)?;
-    Ok(Line::CreateStore(store, mode, prefix))
-}
-
-/// A store's name.
-fn drop_store(alloc: Global, rest: &[&[u8]]) -> Result<Line, TextFault>
-    ensures { IsReading (λ line. Says line (verb_word Verb.DropStore ∷ texts rest.now)) result }
-{
-    let [store] = rest else {
-        return Err(TextFault::BadLine);
-    };
-    let store = name(alloc, store)?;
-    Ok(Line::DropStore(store))
-}
-
-/// Who sets a key of a store to a value.
-fn put(alloc: Global, rest: &[&[u8]]) -> Result<Line, TextFault>
-    ensures { IsReading (λ line. Says line (verb_word Verb.Put ∷ texts rest.now)) result }
-{
-    let [who, store, key, value] = rest else {
-        return Err(TextFault::BadLine);
-    };
-    let who = actor(who)?;
-    let store = name(alloc, store)?;
-    let key = item(alloc, key)?;
-    let value = item(alloc, value)?;
-    Ok(Line::Put(who, store, key, value))
-}
-
-/// Who deletes a key of a store.
-fn del(alloc: Global, rest: &[&[u8]]) -> Result<Line, TextFault>
-    ensures { IsReading (λ line. Says line (verb_word Verb.Del ∷ texts rest.now)) result }
-{
-    let (who, store, key) = key_of(alloc, rest)?;
-    Ok(Line::Del(who, store, key))
-}
-
-/// Who reads a key of a store.
-fn get(alloc: Global, rest: &[&[u8]]) -> Result<Line, TextFault>
-    ensures { IsReading (λ line. Says line (verb_word Verb.Get ∷ texts rest.now)) result }
-{
-    let (who, store, key) = key_of(alloc, rest)?;
-    Ok(Line::Get(who, store, key))
-}
-
-/// Who asks, a store's name and a key.
-fn key_of(alloc: Global, words: &[&[u8]]) -> Result<(Actor, StoreName, Item), TextFault>
-    ensures { IsReading (λ of. AreOfKey (texts words.now) of.0 of.1 of.2) result }
-{
-    let [who, store, key] = words else {
-        return Err(TextFault::BadLine);
-    };
-    let who = actor(who)?;
-    let store = name(alloc, store)?;
-    let key = item(alloc, key)?;
-    Ok((who, store, key))
 }

@@ -6,7 +6,7 @@ ghost use Rattle.shell_text.specs.Texts.{texts};
 use std::alloc::{AllocError, Global};
 
 /// More words than any line of the grammar has.
-pub(crate) const TOO_MANY: usize = 6;
+pub(crate) const TOO_MANY: usize = 7;
 
 /// The parts of a line between its spaces, from the first on up to `TOO_MANY` of them.
 pub(crate) fn words_of(alloc: Global, line: &[u8]) -> Result<Vec<&[u8]>, AllocError>

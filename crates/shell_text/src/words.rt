@@ -1,8 +1,7 @@
 //! The words of a line, and what each stands for.
-ghost use Rattle.std.specs.Prelude.{◌≡◌, ℕ, ◌^◌, ◌<◌, decimal, take, IfOk};
-ghost use Rattle.hse_rows.specs.Names.{IsName};
+ghost use Rattle.std.specs.Prelude.{◌≡◌, ◌≢◌, codes};
 ghost use Rattle.shell_text.specs.Reading.{IsReading};
-ghost use Rattle.shell_text.specs.Words.{IsItem, actor_word, mode_word};
+ghost use Rattle.shell_text.specs.Words.{IsActor, IsItem, IsNameWord, IsNumber, direction_word, mode_word};
 
 use crate::item::Item;
 use crate::line::{Actor, TextFault};
@@ -15,7 +14,7 @@ use std::str;
 
 /// The name that a word is.
 pub(crate) fn name(alloc: Global, word: &[u8]) -> Result<StoreName, TextFault>
-    ensures { IsReading (λ name. (name ≡ word.now) × IsName name) result }
+    ensures { IsReading (λ name. IsNameWord word.now name) result }
 {
     match StoreName::new(alloc, word) {
         Ok(name) => Ok(name),
@@ -46,7 +45,7 @@ pub(crate) fn item(alloc: Global, word: &[u8]) -> Result<Item, TextFault>
 
 /// The number that a word is: the one that is printed so, hence with no sign and no leading zero.
 pub(crate) fn number(word: &[u8]) -> Result<u64, TextFault>
-    ensures { IsReading (λ number. (word.now ≡ decimal number) × (number < 2 ^ 64)) result }
+    ensures { IsReading (λ number. IsNumber word.now number) result }
 {
     let Ok(text) = str::from_utf8(word) else {
         return Err(TextFault::BadLine);
@@ -73,12 +72,32 @@ pub(crate) fn mode(word: &[u8]) -> Result<Mode, TextFault>
     }
 }
 
-/// The actor that a word names.
-pub(crate) fn actor(word: &[u8]) -> Result<Actor, TextFault>
-    ensures { IsReading (λ actor. word.now ≡ actor_word actor) result }
+/// Whether a word names the reverse direction.
+pub(crate) fn direction(word: &[u8]) -> Result<bool, TextFault>
+    ensures { IsReading (λ reverse. word.now ≡ direction_word reverse) result }
+{
+    match word {
+        b"fwd" => Ok(false),
+        b"rev" => Ok(true),
+        _ => Err(TextFault::BadLine),
+    }
+}
+
+/// Who a word says reads or writes.
+pub(crate) fn actor(alloc: Global, word: &[u8]) -> Result<Actor, TextFault>
+    ensures { IsReading (λ actor. IsActor word.now actor) result }
 {
     match word {
         b"@" => Ok(Actor::At),
-        _ => Err(TextFault::BadLine),
+        _ => named_actor(alloc, word),
     }
+}
+
+/// The transaction whose name a word is.
+fn named_actor(alloc: Global, word: &[u8]) -> Result<Actor, TextFault>
+    requires { word.now ≢ codes "@" }
+    ensures { IsReading (λ actor. IsActor word.now actor) result }
+{
+    let name = name(alloc, word)?;
+    Ok(Actor::Name(name))
 }

@@ -1,0 +1,10 @@
+use Rattle.std.proofs.lemmas.Result.{err_from_is_err_and}
+use Rattle.shell_text.specs.declared.verb.Verb.TheVariants as verb
+use Rattle.shell_text.proofs.PartLemmas.{line_fails}
+use Rattle.shell_text.proofs.ShapeLemmas.{of_cursor}
+use Rattle.shell_text.proofs.cursor_lines.cursor.Goals as goal
+
+pub returns-in_err-cursor : goal.returns-in_err-cursor
+returns-in_err-cursor c =
+    line_fails verb.Cursor of_cursor _ _ c.from_residual.result (err_from_is_err_and c.from_residual.result c.from_residual.ensures.1) c.in_err-cursor.ensures
+    (λ of says. (of, says.1))
