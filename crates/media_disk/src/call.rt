@@ -1,7 +1,7 @@
 //! One call of a disk in memory, as its record keeps it.
 
 /// What a call did.
-#[derive(Drop)]
+#[derive(Debug, Drop)]
 pub enum Work {
     /// It asked for the size.
     Size,
@@ -18,7 +18,7 @@ pub enum Work {
 }
 
 /// A call, with the clock before it.
-#[derive(Drop)]
+#[derive(Debug, Drop)]
 pub struct Call {
     pub clock: u64,
     pub work: Work,

@@ -27,5 +27,4 @@ pub use laws::{items_read_back, lines_have_one_meaning};
 pub use line::{Actor, Line, TakeText, TextFault};
 pub use parse::parse_line;
 pub use print::print_reply;
-pub use reply::{Refused, RegionText, Reply, StoreText, StoreTexts};
 pub use reply::{DoneText, PhaseText, Refused, RegionText, Reply, StoreText, StoreTexts, TurnText};
