@@ -40,6 +40,3 @@ pub use store::{Mode, StoreId};
 pub use value::{Value, ValueFault};
 pub use write::Write;
 pub use write_set::WriteSet;
-
-#[cfg(test)]
-mod tests;

@@ -1,6 +1,7 @@
-use crate::{
+//! Limits, normal forms and charges, worked by hand.
+use hse_rows::{
     Change, ChangeRef, Edge, Key, KeyFault, NameFault, Prefix, PrefixFault, StoreId, StoreName,
-    Value, ValueFault, WriteSet,
+    Value, ValueFault, WriteSet, charges_grow_by_the_change_at_most,
 };
 use std::alloc::Global;
 use std::process::Abort;
@@ -56,6 +57,7 @@ fn charge_after(set: &WriteSet, store: StoreId, change: &Change) -> Option<u64> 
     if bytes > 1000 {
         return None;
     }
+    charges_grow_by_the_change_at_most();
     Some(set.charge_with(store, change))
 }
 
