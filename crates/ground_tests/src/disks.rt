@@ -86,37 +86,3 @@ fn a_listed_write_fails_and_is_pending(rt: HostRuntime) -> Result<(), Fail> {
     assert_eq!(rt; disk.bytes(), b"ab-???-?".as_slice());
     Ok(())
 }
-
-#[test]
-fn the_listed_calls_fail_and_no_others(rt: HostRuntime) -> Result<(), Fail> {
-    let alloc = rt.alloc();
-    let mut disk = dashes(alloc)?;
-    disk.fail_at(vec![in alloc; 1, 3]?);
-    disk.fail_from(6);
-    for fails in [false, true, false, true, false, false, true, true] {
-        assert_eq!(rt; disk.sync().is_err(), fails);
-    }
-    assert_eq!(rt; disk.listed(), 4);
-    assert_eq!(rt; disk.refused(), 0);
-    assert_eq!(rt; disk.calls().len(), 8);
-    Ok(())
-}
-
-#[test]
-fn a_size_reads_as_zeros_and_is_pending(rt: HostRuntime) -> Result<(), Fail> {
-    let alloc = rt.alloc();
-    let mut disk = MemDisk::new(alloc);
-    assert!(rt; (&mut disk).size() == Ok(0));
-    let len = disk.bytes().len();
-    assert!(rt; len == 0);
-    assert!(rt; disk.set_size(4).is_ok());
-    write(&rt, &mut disk, 1, b"a");
-    let mut read = [9u8; 4];
-    let len = disk.bytes().len();
-    assert!(rt; len == 4);
-    assert!(rt; disk.read(0, &mut read).is_ok());
-    assert_eq!(rt; read, [0, b'a', 0, 0]);
-    let disk = disk.stopped(alloc, Fill::Byte(7))?;
-    assert_eq!(rt; disk.bytes(), [7, 7, 7, 7].as_slice());
-    Ok(())
-}

@@ -177,24 +177,6 @@ fn the_bytes_of_a_region_with_one_batch(rt: HostRuntime) -> Result<(), Fail> {
 }
 
 #[test]
-fn a_batch_that_does_not_fit_has_its_need_and_the_room(rt: HostRuntime) -> Result<(), Fail> {
-    let alloc = rt.alloc();
-    let (mut disk, mut tail) = with_one_batch(&rt, alloc)?;
-    let clock = disk.clock();
-    assert_eq!(rt;
-        add(&rt, alloc, &mut disk, &mut tail, b"you")?,
-        Err(AppendFault::Full(8, 7))
-    );
-    assert_eq!(rt; disk.clock(), clock);
-    assert_eq!(rt; add(&rt, alloc, &mut disk, &mut tail, b"yo")?, Ok(()));
-    assert_eq!(rt;
-        add(&rt, alloc, &mut disk, &mut tail, b"")?,
-        Err(AppendFault::Full(5, 0))
-    );
-    Ok(())
-}
-
-#[test]
 fn a_batch_that_is_cut_off_has_the_place_of_its_length(rt: HostRuntime) -> Result<(), Fail> {
     let alloc = rt.alloc();
     let bytes = b"----O\0\0\0\0\0\0\0\x01O\0\0\0\x02hiO\0\0\0\x03abc----";

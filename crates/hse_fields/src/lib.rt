@@ -6,6 +6,7 @@ mod laws;
 mod limits;
 mod put;
 mod short;
+mod split;
 mod take;
 
 pub use laws::{log_text_is_read, log_text_is_read_by_rule, put_is_taken};
@@ -15,4 +16,5 @@ pub use limits::{
 };
 pub use put::{put_bytes, put_pieces, put_u8, put_u16, put_u32, put_u64};
 pub use short::Short;
+pub use split::{split_bytes, split_u8, split_u16, split_u32, split_u64};
 pub use take::{take_bytes, take_u8, take_u16, take_u32, take_u64};

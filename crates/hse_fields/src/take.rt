@@ -1,66 +1,59 @@
-//! Takes fields from the beginning of bytes.
-ghost use Rattle.std.specs.Prelude.{◌≡◌, length, nat_lt, if◌then◌else◌, Ok, Err};
-ghost use Rattle.hse_fields.specs.Fields.{short, number_of, bytes_of, IsTaken};
+//! Takes a field that stands at a place among bytes.
+ghost use Rattle.std.specs.Prelude.{◌≡◌, drop};
+ghost use Rattle.hse_fields.specs.Fields.{bytes_at, number_at, seen_by};
 
 use crate::Short;
-use byteorder::{BigEndian, ByteOrder};
+use crate::split::{split_bytes, split_u8, split_u16, split_u32, split_u64};
 
-/// Tells where fewer bytes stand than are needed.
-fn need(bytes: &[u8], need: u64) -> Result<(), Short>
-    ensures { result ≡ (if nat_lt (length bytes.now) need
-        then Err (short (length bytes.now) need) else Ok tt) }
+/// The bytes from a place on: none where it lies past the end.
+fn rest(bytes: &[u8], at: u64) -> &[u8]
+    ensures { result.now ≡ drop at bytes.now }
 {
-    let have = bytes.len() as u64;
-    if have < need {
-        return Err(Short { have, need });
+    if at > bytes.len() as u64 {
+        return &[];
     }
-    Ok(())
+    bytes.split_at(at as usize).1
 }
 
-/// The first byte, and the bytes behind it. `Short` comes exactly where there is none.
-pub fn take_u8(bytes: &[u8]) -> Result<(u8, &[u8]), Short>
-    ensures { IsTaken 1 (λ x. (x.0, x.1.now)) result (number_of 1 bytes.now) }
+/// The byte at a place. `Short` comes exactly where none stands there.
+pub fn take_u8(bytes: &[u8], at: u64) -> Result<u8, Short>
+    ensures { result ≡ number_at 1 bytes.now at }
 {
-    need(bytes, 1)?;
-    let (field, rest) = bytes.split_at(1);
-    Ok((field[0], rest))
+    let (number, _) = split_u8(rest(bytes, at))?;
+    Ok(number)
 }
 
-/// The number in the first two bytes, the highest first, and the bytes behind them. `Short` comes
-/// exactly where there are fewer.
-pub fn take_u16(bytes: &[u8]) -> Result<(u16, &[u8]), Short>
-    ensures { IsTaken 2 (λ x. (x.0, x.1.now)) result (number_of 2 bytes.now) }
+/// The number in the two bytes from a place on, the highest first. `Short` comes exactly where fewer
+/// stand there.
+pub fn take_u16(bytes: &[u8], at: u64) -> Result<u16, Short>
+    ensures { result ≡ number_at 2 bytes.now at }
 {
-    need(bytes, 2)?;
-    let (field, rest) = bytes.split_at(2);
-    Ok((BigEndian::read_u16(field), rest))
+    let (number, _) = split_u16(rest(bytes, at))?;
+    Ok(number)
 }
 
-/// The number in the first four bytes, the highest first, and the bytes behind them. `Short` comes
-/// exactly where there are fewer.
-pub fn take_u32(bytes: &[u8]) -> Result<(u32, &[u8]), Short>
-    ensures { IsTaken 4 (λ x. (x.0, x.1.now)) result (number_of 4 bytes.now) }
+/// The number in the four bytes from a place on, the highest first. `Short` comes exactly where
+/// fewer stand there.
+pub fn take_u32(bytes: &[u8], at: u64) -> Result<u32, Short>
+    ensures { result ≡ number_at 4 bytes.now at }
 {
-    need(bytes, 4)?;
-    let (field, rest) = bytes.split_at(4);
-    Ok((BigEndian::read_u32(field), rest))
+    let (number, _) = split_u32(rest(bytes, at))?;
+    Ok(number)
 }
 
-/// The number in the first eight bytes, the highest first, and the bytes behind them. `Short` comes
-/// exactly where there are fewer.
-pub fn take_u64(bytes: &[u8]) -> Result<(u64, &[u8]), Short>
-    ensures { IsTaken 8 (λ x. (x.0, x.1.now)) result (number_of 8 bytes.now) }
+/// The number in the eight bytes from a place on, the highest first. `Short` comes exactly where
+/// fewer stand there.
+pub fn take_u64(bytes: &[u8], at: u64) -> Result<u64, Short>
+    ensures { result ≡ number_at 8 bytes.now at }
 {
-    need(bytes, 8)?;
-    let (field, rest) = bytes.split_at(8);
-    Ok((BigEndian::read_u64(field), rest))
+    let (number, _) = split_u64(rest(bytes, at))?;
+    Ok(number)
 }
 
-/// The first bytes, so many of them, and the bytes behind them. `Short` comes exactly where there
-/// are fewer.
-pub fn take_bytes(bytes: &[u8], len: u64) -> Result<(&[u8], &[u8]), Short>
-    ensures { IsTaken len (λ x. (x.0.now, x.1.now)) result (bytes_of len bytes.now) }
+/// So many bytes from a place on. `Short` comes exactly where fewer stand there.
+pub fn take_bytes(bytes: &[u8], at: u64, len: u64) -> Result<&[u8], Short>
+    ensures { seen_by (λ taken. taken.now) result ≡ bytes_at len bytes.now at }
 {
-    need(bytes, len)?;
-    Ok(bytes.split_at(len as usize))
+    let (taken, _) = split_bytes(rest(bytes, at), len)?;
+    Ok(taken)
 }

@@ -12,7 +12,7 @@ use crate::live::name_may;
 use crate::order::{may_front_follow, may_kind_follow, may_store_follow};
 use crate::reader::Reader;
 use crate::refusal::Refusal;
-use hse_fields::{take_bytes, take_u8, take_u16, take_u64};
+use hse_fields::{split_bytes, split_u8, split_u16, split_u64};
 use hse_io::NoMemory;
 use hse_rows::{Change, Key, KeyFault, Prefix, PrefixFault, StoreId, Value, ValueFault, Write};
 use std::alloc::Global;
@@ -75,7 +75,7 @@ impl<'b, 'a> Reader<'b, 'a> {
         ensures { Gives (λ x. (kind_as x.0, x.1.now)) result
             (kind_of (last_of last.entry) self.entry.bytes.now) }
     {
-        let (byte, rest) = take_u8(self.bytes)?;
+        let (byte, rest) = split_u8(self.bytes)?;
         let Some(kind) = kind_of_byte(byte) else {
             return Err(self.refusal());
         };
@@ -102,7 +102,7 @@ impl<'b, 'a> Reader<'b, 'a> {
         ensures some { IfOk result (λ x. 1 ≤ length x.0.now) }
         ensures short { IfOk result (λ x. length x.0.now ≤ longest_name (kind_as kind)) }
     {
-        let (size, rest) = take_u16(self.bytes)?;
+        let (size, rest) = split_u16(self.bytes)?;
         let size = size as u64;
         if !may_front_follow(last, kind, store, size, rest) {
             return Err(Refusal::Left(left));
@@ -113,7 +113,7 @@ impl<'b, 'a> Reader<'b, 'a> {
         if !name_may(self.live, kind, store, size) {
             return Err(self.refusal());
         }
-        Ok(take_bytes(rest, size)?)
+        Ok(split_bytes(rest, size)?)
     }
 
     /// A change behind the last one of its commit.
@@ -125,7 +125,7 @@ impl<'b, 'a> Reader<'b, 'a> {
     {
         let left = self.bytes.len() as u64;
         let (kind, rest) = self.kind(last)?;
-        let (store, rest) = take_u64(rest)?;
+        let (store, rest) = split_u64(rest)?;
         if !may_store_follow(last, kind, store) {
             return Err(self.refusal());
         }

@@ -7,7 +7,7 @@ ghost use Rattle.wal.specs.Logged.{logged_all};
 
 use crate::reader::{Reader, are_bytes};
 use crate::refusal::Refusal;
-use hse_fields::take_u32;
+use hse_fields::split_u32;
 use hse_rows::{Write, WriteSet};
 
 impl<'b, 'a> Reader<'b, 'a> {
@@ -37,7 +37,7 @@ impl<'b, 'a> Reader<'b, 'a> {
         ensures { Gives (λ x. (logged_all x.0, x.1.now)) result
             (changes_of (prefix_fits self.entry.live.now) self.entry.most self.entry.bytes.now) }
     {
-        let (count, rest) = take_u32(self.bytes)?;
+        let (count, rest) = split_u32(self.bytes)?;
         if count == 0 {
             return Err(self.refusal());
         }

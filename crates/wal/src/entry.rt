@@ -14,7 +14,7 @@ use crate::Commit;
 use crate::expected::{Expected, GREATEST_NUMBER, first_free};
 use crate::reader::{Reader, are_bytes};
 use crate::refusal::Refusal;
-use hse_fields::{LONGEST_VALUE, take_u64};
+use hse_fields::{LONGEST_VALUE, split_u64};
 use hse_io::NoMemory;
 use hse_rows::WriteSet;
 
@@ -80,7 +80,7 @@ impl<'b, 'a> Reader<'b, 'a> {
             (numbers_as self.entry.expected) self.entry.bytes.now) }
     {
         let left = self.bytes.len() as u64;
-        let (number, rest) = take_u64(self.bytes)?;
+        let (number, rest) = split_u64(self.bytes)?;
         are_bytes(rest);
         let (next, taken) = first_free(self.expected.next, self.expected.taken);
         if number != next {

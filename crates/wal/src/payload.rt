@@ -10,7 +10,7 @@ use crate::Commit;
 use crate::expected::Expected;
 use crate::reader::Reader;
 use crate::refusal::Refusal;
-use hse_fields::take_u32;
+use hse_fields::split_u32;
 
 impl<'b, 'a> Reader<'b, 'a> {
     /// So many commits, and what may come after them.
@@ -44,7 +44,7 @@ impl<'b, 'a> Reader<'b, 'a> {
             (payload_of (numbering self.entry.live.now) self.entry.most
             (numbers_as self.entry.expected) self.entry.bytes.now) }
     {
-        let (count, rest) = take_u32(self.bytes)?;
+        let (count, rest) = split_u32(self.bytes)?;
         if count == 0 {
             return Err(self.refusal());
         }

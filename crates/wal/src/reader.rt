@@ -10,7 +10,7 @@ use crate::StorePrefix;
 use crate::expected::Expected;
 use crate::kind::Kind;
 use crate::refusal::Refusal;
-use hse_fields::{take_bytes, take_u32};
+use hse_fields::{split_bytes, split_u32};
 use std::alloc::Global;
 
 /// The bytes of a payload that are left, and what is asked of what stands there. Each of its calls
@@ -48,11 +48,11 @@ impl<'b, 'a> Reader<'b, 'a> {
             (sized_of 4 0 self.entry.most self.entry.bytes.now) }
         ensures short { IfOk result (λ x. length x.0.now ≤ self.entry.most) }
     {
-        let (size, rest) = take_u32(self.bytes)?;
+        let (size, rest) = split_u32(self.bytes)?;
         if size as u64 > self.most {
             return Err(self.refusal());
         }
-        Ok(take_bytes(rest, size as u64)?)
+        Ok(split_bytes(rest, size as u64)?)
     }
 
     /// A put's value; the other kinds have none.

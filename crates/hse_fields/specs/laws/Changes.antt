@@ -1,15 +1,11 @@
 -- A change that is read is the one that was written, and what was written is read again.
 use Rattle.std.specs.Prelude.{◌≡◌, ◌⊎◌, ℕ, ◌^◌, ◌<◌, ◌≤◌, Bool, true, false, List, [], ◌++◌, length, take, Option, Some, None, Result, Ok, nat_lt, nat_le, ◌==◌, ◌||◌, if◌then◌else◌}
-use Rattle.std.specs.Ordering.{ordering_then, is_lt, nat_cmp}
-use Rattle.std.specs.declared.cmp.Ordering.{Ordering}
-use Rattle.std.specs.declared.cmp.Ordering.TheVariants.{Less, Equal, Greater}
-use Rattle.std.specs.Cmp.Lexicographic.{slice_cmp}
 use Rattle.std.proofs.Common.{refl, sym, ap, subst, ◌∙◌, append_assoc, arith, inl, inr, cond}
-use Rattle.std.proofs.lemmas.Bool.{ltb-true, leb-true, le-leb, lt-ltb, le-ltb, eqb-true, and_parts}
+use Rattle.std.proofs.lemmas.Bool.{leb-true, le-leb, le-ltb, eqb-true, and_parts}
 use Rattle.std.proofs.lemmas.List.{take_at}
 use Rattle.byteorder.specs.Endian.{big_bytes}
 use Rattle.hse_fields.specs.LogText.{Kind, put, del, pdel, Change, code, sized, value_text, change_text, head_text}
-use Rattle.hse_fields.specs.LogOrder.{rank, may_follow, kind_may_follow, store_may_follow}
+use Rattle.hse_fields.specs.LogOrder.{may_follow, kind_may_follow, store_may_follow}
 use Rattle.hse_fields.specs.LogLimits.{longest_value}
 use Rattle.hse_fields.specs.LogForm.{longest_name, ValueFits, IsChange}
 use Rattle.hse_fields.specs.Fields.{number_of, bytes_of}

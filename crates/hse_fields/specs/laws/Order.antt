@@ -1,19 +1,14 @@
 -- A change that may stand behind the last one may so by its kind, and by its store.
-use Rattle.std.specs.Prelude.{◌≡◌, ◌⊎◌, ℕ, ◌^◌, ◌<◌, ◌≤◌, Bool, true, false, List, [], ◌++◌, length, take, Option, Some, None, Result, Ok, nat_lt, nat_le, ◌==◌, ◌||◌, if◌then◌else◌}
+use Rattle.std.specs.Prelude.{◌≡◌, ◌⊎◌, ℕ, ◌<◌, Bool, true, false, List, [], Option, Some, None, nat_lt, nat_le, ◌==◌, ◌||◌}
 use Rattle.std.specs.Ordering.{ordering_then, is_lt, nat_cmp}
 use Rattle.std.specs.declared.cmp.Ordering.{Ordering}
 use Rattle.std.specs.declared.cmp.Ordering.TheVariants.{Less, Equal, Greater}
 use Rattle.std.specs.Cmp.Lexicographic.{slice_cmp}
-use Rattle.std.proofs.Common.{refl, sym, ap, subst, ◌∙◌, append_assoc, arith, inl, inr, cond}
-use Rattle.std.proofs.lemmas.Bool.{ltb-true, leb-true, le-leb, lt-ltb, le-ltb, eqb-true, and_parts}
-use Rattle.std.proofs.lemmas.List.{take_at}
-use Rattle.byteorder.specs.Endian.{big_bytes}
-use Rattle.hse_fields.specs.LogText.{Kind, put, del, pdel, Change, code, sized, value_text, change_text, head_text}
+use Rattle.std.proofs.Common.{refl, arith, inl, inr, cond}
+use Rattle.std.proofs.lemmas.Bool.{ltb-true, le-leb, lt-ltb, eqb-true}
+use Rattle.hse_fields.specs.LogText.{Kind, Change}
 use Rattle.hse_fields.specs.LogOrder.{rank, may_follow, kind_may_follow, store_may_follow}
-use Rattle.hse_fields.specs.LogForm.{longest_name, ValueFits, IsChange}
-use Rattle.hse_fields.specs.Fields.{number_of, bytes_of}
-use Rattle.hse_fields.specs.LogReading.{◌>>=◌, ensure, given, kind_with, kind_of, value_of, change, name_may_follow, name_in_limits, name_fits, name_of, change_of, PrefixFits}
-use Rattle.hse_fields.specs.laws.Fields.{IsBytes, bind_ok, ensure_ok, given_ok, ok_is, Takes, Takes-then, width_1, width_2, width_4, width_8, number_takes, number_again, bytes_takes, bytes_again, behind_size, sized_takes, sized_again}
+use Rattle.hse_fields.specs.LogReading.{change}
 
 then_cases : (x y : Bool) (o : Ordering) → is_lt (ordering_then (cond x Less (cond y Equal Greater)) o) ≡ true
     → (x ≡ true) ⊎ ((y ≡ true) × (is_lt o ≡ true))
