@@ -4,9 +4,7 @@ use Rattle.std.proofs.Math.Bool.{true≢false}
 use Rattle.std.specs.Prelude.{codes, replicate}
 use Rattle.std.specs.List.{list_all}
 use Rattle.hse_rows.specs.declared.change.Change.TheVariants.{Put, Del, PDel}
-use Rattle.hse_rows.specs.declared.key.KeyFault.TheVariants as key
-use Rattle.hse_rows.specs.declared.value.ValueFault.TheVariants as value
-use Rattle.hse_rows.specs.declared.prefix.PrefixFault.TheVariants as prefix
+use Rattle.hse_rows.specs.declared.length_fault.LengthFault.TheVariants as fault
 use Rattle.hse_rows.specs.declared.name.NameFault.TheVariants as name
 use Rattle.hse_rows.specs.Lengths.{IsKeyLength, IsEdgeLength, IsPrefixLength, FitsPrefix}
 use Rattle.hse_rows.specs.Names.{is_name_byte, IsName}
@@ -117,37 +115,37 @@ a_space_is_in_no_name is = absurd (true≢false (sym is.letters))
 
 -- ---- refusals
 
-a_long_key_is_refused_with_its_length : RefusesKey 1345 (key.Length 1345) × ¬ RefusesKey 1345 (key.Length 1344)
+a_long_key_is_refused_with_its_length : RefusesKey 1345 (fault.Length 1345) × ¬ RefusesKey 1345 (fault.Length 1344)
 a_long_key_is_refused_with_its_length =
     ((refl, λ is. absurd (omega (arith, is.1))), λ refuses. absurd (omega (arith, refuses.0)))
 
-a_key_within_is_refused_for_memory_alone : RefusesKey 1 key.NoMemory × ¬ RefusesKey 1 (key.Length 1)
+a_key_within_is_refused_for_memory_alone : RefusesKey 1 fault.NoMemory × ¬ RefusesKey 1 (fault.Length 1)
 a_key_within_is_refused_for_memory_alone = (a_key_has_1_byte_or_more.0, λ refuses. refuses.1 a_key_has_1_byte_or_more.0)
 
-a_long_key_is_not_refused_for_memory : ¬ RefusesKey 1345 key.NoMemory
+a_long_key_is_not_refused_for_memory : ¬ RefusesKey 1345 fault.NoMemory
 a_long_key_is_not_refused_for_memory = a_key_has_1344_bytes_at_most.1
 
-an_empty_edge_is_not_refused_for_its_length : ¬ RefusesEdge 0 (key.Length 0)
+an_empty_edge_is_not_refused_for_its_length : ¬ RefusesEdge 0 (fault.Length 0)
 an_empty_edge_is_not_refused_for_its_length refuses = refuses.1 an_edge_may_be_empty
 
-a_long_edge_is_refused : RefusesEdge 1345 (key.Length 1345)
+a_long_edge_is_refused : RefusesEdge 1345 (fault.Length 1345)
 a_long_edge_is_refused = (refl, an_edge_has_1344_bytes_at_most.1)
 
-a_value_above_its_most_is_refused : RefusesValue 65472 65473 (value.Length 65473)
+a_value_above_its_most_is_refused : RefusesValue 65472 65473 (fault.Length 65473)
 a_value_above_its_most_is_refused =
     let above : 65472 < 65473 = omega arith in
     (refl, above)
 
-one_of_its_most_is_not : ¬ RefusesValue 65472 65472 (value.Length 65472)
+one_of_its_most_is_not : ¬ RefusesValue 65472 65472 (fault.Length 65472)
 one_of_its_most_is_not refuses = absurd (omega (arith, refuses.1))
 
-a_prefix_longer_than_its_store_s_is_refused : RefusesPrefix 2 3 (prefix.Length 3)
+a_prefix_longer_than_its_store_s_is_refused : RefusesPrefix 2 3 (fault.Length 3)
 a_prefix_longer_than_its_store_s_is_refused = (refl, a_prefix_may_be_as_long_as_its_store_s.2)
 
-a_shorter_one_is_not : ¬ RefusesPrefix 2 1 (prefix.Length 1)
+a_shorter_one_is_not : ¬ RefusesPrefix 2 1 (fault.Length 1)
 a_shorter_one_is_not refuses = refuses.1 a_prefix_may_be_as_long_as_its_store_s.0
 
-every_prefix_is_refused_where_none_is_allowed : RefusesPrefix 0 0 (prefix.Length 0)
+every_prefix_is_refused_where_none_is_allowed : RefusesPrefix 0 0 (fault.Length 0)
 every_prefix_is_refused_where_none_is_allowed = (refl, a_store_without_prefixes_takes_none)
 
 an_empty_name_is_refused : RefusesName [] name.BadName

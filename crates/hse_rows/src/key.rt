@@ -3,11 +3,11 @@ ghost use Rattle.std.specs.Prelude.{◌≡◌, length, IfOk, IfErr};
 ghost use Rattle.hse_rows.specs.Lengths.{IsKeyLength};
 ghost use Rattle.hse_rows.specs.Refusals.{RefusesKey};
 
+use crate::length_fault::LengthFault;
 use crate::shared_bytes::SharedBytes;
 use hse_io::NoMemory;
 use std::alloc::Global;
 use std::marker::Model;
-use thiserror::Error;
 
 /// The bytes of a key, 1 to 1,344. Keys are in the order of their bytes, a prefix before its
 /// extensions.
@@ -30,25 +30,7 @@ impl Model for Key {
 }
 
 /// Why no key, and no edge, was made.
-#[derive(Clone, Copy, Debug, PartialEq, Eq, Error)]
-pub enum KeyFault {
-    /// The number of bytes that were given.
-    #[error("{0} bytes are no key")]
-    Length(u64),
-    #[error("out of memory")]
-    NoMemory,
-}
-
-impl From<NoMemory> for KeyFault {
-    ghost use Rattle.std.specs.Prelude.{◌≡◌};
-    ghost use Rattle.hse_rows.specs.declared.key.KeyFault.TheVariants.{NoMemory as OutOfMemory};
-
-    ghost from_gives = { λ _ fault. fault ≡ OutOfMemory };
-
-    fn from(_: NoMemory) -> Self {
-        KeyFault::NoMemory
-    }
-}
+pub type KeyFault = LengthFault;
 
 /// The most bytes that a key has.
 pub(crate) const LONGEST_KEY: usize = 1344;

@@ -6,6 +6,7 @@ mod core_laws;
 mod edge;
 mod key;
 mod laws;
+mod length_fault;
 mod name;
 mod normal_form;
 mod places;
@@ -31,6 +32,7 @@ pub use laws::{
     normal_forms_do_the_same, normal_forms_overlap_the_same, overlaps_go_both_ways,
     snapshots_are_isolated, snapshots_stay,
 };
+pub use length_fault::LengthFault;
 pub use name::{NameFault, StoreName};
 pub use normal_form::{charges_grow_by_the_change_at_most, normal_forms_are_in_order};
 pub use prefix::{Prefix, PrefixFault};

@@ -4,11 +4,11 @@ ghost use Rattle.hse_rows.specs.Change.{Covers, covers};
 ghost use Rattle.hse_rows.specs.Lengths.{IsPrefixLength, FitsPrefix};
 ghost use Rattle.hse_rows.specs.Refusals.{RefusesPrefix};
 
+use crate::length_fault::LengthFault;
 use crate::shared_bytes::SharedBytes;
 use hse_io::NoMemory;
 use std::alloc::Global;
 use std::marker::Model;
-use thiserror::Error;
 
 /// The bytes that the keys of a prefix delete begin with, 1 to 32. Prefixes are in the order of
 /// their bytes.
@@ -31,25 +31,7 @@ impl Model for Prefix {
 }
 
 /// Why no prefix was made.
-#[derive(Clone, Copy, Debug, PartialEq, Eq, Error)]
-pub enum PrefixFault {
-    /// The number of bytes that were given.
-    #[error("{0} bytes are no prefix of this length")]
-    Length(u64),
-    #[error("out of memory")]
-    NoMemory,
-}
-
-impl From<NoMemory> for PrefixFault {
-    ghost use Rattle.std.specs.Prelude.{◌≡◌};
-    ghost use Rattle.hse_rows.specs.declared.prefix.PrefixFault.TheVariants.{NoMemory as OutOfMemory};
-
-    ghost from_gives = { λ _ fault. fault ≡ OutOfMemory };
-
-    fn from(_: NoMemory) -> Self {
-        PrefixFault::NoMemory
-    }
-}
+pub type PrefixFault = LengthFault;
 
 /// The most bytes that a prefix has.
 const LONGEST_PREFIX: usize = 32;

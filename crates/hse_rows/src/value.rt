@@ -2,11 +2,11 @@
 ghost use Rattle.std.specs.Prelude.{◌≡◌, ◌≤◌, length, IfOk, IfErr};
 ghost use Rattle.hse_rows.specs.Refusals.{RefusesValue};
 
+use crate::length_fault::LengthFault;
 use crate::shared_bytes::SharedBytes;
 use hse_io::NoMemory;
 use std::alloc::Global;
 use std::marker::Model;
-use thiserror::Error;
 
 /// The bytes of a value.
 #[derive(Drop)]
@@ -23,25 +23,7 @@ impl Model for Value {
 }
 
 /// Why no value was made.
-#[derive(Clone, Copy, Debug, PartialEq, Eq, Error)]
-pub enum ValueFault {
-    /// The number of bytes that were given.
-    #[error("a value of {0} bytes is too long")]
-    Length(u64),
-    #[error("out of memory")]
-    NoMemory,
-}
-
-impl From<NoMemory> for ValueFault {
-    ghost use Rattle.std.specs.Prelude.{◌≡◌};
-    ghost use Rattle.hse_rows.specs.declared.value.ValueFault.TheVariants.{NoMemory as OutOfMemory};
-
-    ghost from_gives = { λ _ fault. fault ≡ OutOfMemory };
-
-    fn from(_: NoMemory) -> Self {
-        ValueFault::NoMemory
-    }
-}
+pub type ValueFault = LengthFault;
 
 impl Value {
     /// A value of these bytes. `Length` comes exactly where they are more than `most`, with their

@@ -1,6 +1,5 @@
 -- Reading entries one after the other, as a loop does, and what they take of the room.
 use Rattle.std.proofs.Common.{◌≡◌, ℕ, suc, ◌-◌, ◌+◌, ◌*◌, ◌≤◌, ◌<◌, List, [], ◌∷◌, ◌++◌, length, Result, Ok, Err, refl, sym, ap, ◌∙◌, append_assoc, arith, length-append}
-use Rattle.std.specs.Prelude.{IfOk, IfErr}
 use Rattle.std.specs.List.{flat_map}
 use Rattle.std.proofs.lemmas.List.{append-nil}
 use Rattle.std.proofs.lemmas.List.Sums.{sum_by-cons}
@@ -10,14 +9,12 @@ use Rattle.hse_fields.specs.LogText.{Entry, entry_text, payload_text}
 use Rattle.hse_fields.specs.LogReading.{◌>>=◌, entry_of, entries_of, payload_of}
 use Rattle.hse_fields.specs.laws.Fields.{IsBytes}
 use Rattle.hse_fields.specs.laws.Payloads.{payload_takes}
-use Rattle.hse_fields.specs.laws.Within.{payload_within}
 use Rattle.wal.specs.declared.refusal.Refusal.{Refusal}
 use Rattle.wal.specs.declared.refusal.Refusal.TheVariants.{Left, NoMemory}
 use Rattle.wal.specs.Charges.{charges}
 use Rattle.wal.specs.Given.{Fails}
 use Rattle.wal.specs.Logged.{charge}
 use Rattle.wal.specs.Numbering.{Numbers, numbering}
-use Rattle.wal.specs.laws.Numbering.{all_charges}
 use Rattle.wal.specs.declared.live.StorePrefix.{StorePrefix}
 
 -- what was read before, and what is still read

@@ -1,10 +1,8 @@
 -- What the reading of a segment's batches says of their places and charges.
-use Rattle.std.proofs.Common.{◌≡◌, ◌∙◌, ℕ, ◌+◌, ◌-◌, ◌<◌, ◌≤◌, List, [], ◌∷◌, ◌++◌, length, Result, Ok, Err, get_or, refl, sym, ap, subst, arith, inl, inr}
-use Rattle.std.specs.List.{sum_by, AllByRecursion}
-use Rattle.std.proofs.lemmas.Bool.{cases_lt}
-use Rattle.std.proofs.lemmas.List.{get_or_past}
-use Rattle.std.proofs.lemmas.List.Sums.{sum_by-cons, sum_by-append}
-use Rattle.gate_log.specs.Places.{need_of, tail_of}
+use Rattle.std.proofs.Common.{◌≡◌, ℕ, ◌+◌, ◌-◌, ◌≤◌, List, [], ◌∷◌, ◌++◌, Result, Ok, Err, sym, ap, subst, arith}
+use Rattle.std.specs.List.{sum_by}
+use Rattle.std.proofs.lemmas.List.Sums.{sum_by-cons}
+use Rattle.gate_log.specs.Places.{need_of}
 use Rattle.gate_log.specs.Reading.{payloads_of, LiesInside}
 use Rattle.gate_log.specs.declared.found.Payload.{Payload}
 use Rattle.gate_log.specs.declared.region.Tail.{Tail}
@@ -12,7 +10,6 @@ use Rattle.gate_log.specs.declared.front.End.{End}
 use Rattle.gate_log.specs.declared.front.End.TheVariants.{Closed, CutOff}
 use Rattle.hse_fields.specs.LogText.{Entry}
 use Rattle.hse_fields.specs.LogReading.{◌>>=◌, payload_of}
-use Rattle.hse_fields.specs.laws.Fields.{IsBytes}
 use Rattle.wal.specs.Given.{Refuses}
 use Rattle.wal.specs.Numbering.{Numbers, numbering}
 use Rattle.wal.specs.Replaying.{before, batches_of, ended, segment_of, starting}

@@ -1,5 +1,5 @@
 -- What the readers of this crate give is what reading gives on lists, unless it is out of memory.
-use Rattle.std.specs.Prelude.{◌≡◌, ℕ, ◌+◌, ◌≤◌, Result, Ok, Err}
+use Rattle.std.specs.Prelude.{◌≡◌, ℕ, Result, Ok, Err}
 use Rattle.hse_fields.specs.LogText as log
 use Rattle.wal.specs.declared.refusal.Refusal.{Refusal}
 use Rattle.wal.specs.declared.refusal.Refusal.TheVariants.{Left, NoMemory}

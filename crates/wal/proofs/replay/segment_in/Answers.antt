@@ -1,10 +1,9 @@
-use Rattle.std.proofs.Common.{◌≡◌, ◌∙◌, ℕ, List, Ok, refl, ap, sym, subst, arith}
+use Rattle.std.proofs.Common.{◌≡◌, ℕ, List, Ok, refl, ap, sym, subst, arith}
 use Rattle.std.proofs.lemmas.Result.{err_from_is_err_and}
 use Rattle.gate_log.specs.Places.{tail_of}
 use Rattle.gate_log.specs.Reading.{payloads_of, Ends, LiesInside}
 use Rattle.gate_log.specs.declared.found.Payload.{Payload}
 use Rattle.gate_log.specs.declared.front.End.{End}
-use Rattle.gate_log.specs.declared.front.End.TheVariants.{Closed}
 use Rattle.hse_fields.specs.LogText.{Entry}
 use Rattle.hse_fields.specs.LogReading.{Follow}
 use Rattle.wal.specs.Expected.{numbers_as}
@@ -13,7 +12,7 @@ use Rattle.wal.specs.Numbering.{Numbers, numbering}
 use Rattle.wal.specs.Replaying.{segment_of, starting}
 use Rattle.wal.specs.laws.Batches.{batches_follow}
 use Rattle.wal.proofs.SegmentLemmas.{result_within, segment_is}
-use Rattle.wal.proofs.SoundLemmas.{Counts, numbers_from, counts}
+use Rattle.wal.proofs.SoundLemmas.{numbers_from, counts}
 use Rattle.wal.proofs.replay.segment_in.Goals as goal
 
 pub returns-in_err-commits-clause-within : goal.returns-in_err-commits-clause-within

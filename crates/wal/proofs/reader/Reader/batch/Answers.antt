@@ -1,4 +1,4 @@
-use Rattle.std.proofs.Common.{◌≡◌, arith}
+use Rattle.std.proofs.Common.{arith}
 use Rattle.hse_fields.specs.laws.Within.{payload_within}
 use Rattle.wal.specs.Expected.{numbers_as}
 use Rattle.wal.specs.Numbering.{numbering}

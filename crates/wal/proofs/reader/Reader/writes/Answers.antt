@@ -1,15 +1,11 @@
-use Rattle.std.proofs.Common.{◌≡◌, ◌∙◌, ◌++◌, ◌∷◌, [], Option, Some, None, ap, sym, subst, arith, length, length-append}
+use Rattle.std.proofs.Common.{◌≡◌, ◌∙◌, ◌++◌, ◌∷◌, [], Option, Some, None, ap, sym, subst}
 use Rattle.std.proofs.lemmas.Result.{err_from_is_err_and}
 use Rattle.std.proofs.lemmas.List.{map_push}
-use Rattle.hse_fields.specs.LogText.{Change, change_text}
+use Rattle.hse_fields.specs.LogText.{Change}
 use Rattle.hse_fields.specs.LogReading.{change_of, more_changes_of}
-use Rattle.hse_fields.specs.laws.AllChanges.{more_changes_take}
 use Rattle.wal.specs.Given.{Fails}
 use Rattle.wal.specs.Live.{prefix_fits}
 use Rattle.wal.specs.Logged.{logged, logged_all}
-use Rattle.std.specs.List.{flat_map}
-use Rattle.wal.proofs.LengthLemmas.{length-all}
-use Rattle.wal.proofs.OrderLemmas.{rising}
 use Rattle.wal.proofs.ChangesLoop.{end_of, end_of-push, end_is, goes_on, stops, is_done}
 use Rattle.wal.proofs.reader.Reader.writes.Goals as goal
 
