@@ -4,7 +4,7 @@ use Rattle.media_disk.specs.Content.{put_at, Torn}
 use Rattle.media_disk.specs.Images.{IsImage}
 use Rattle.gate_log.specs.Crashes.{IsTornFrom, IsWithin, OldOrNew}
 use Rattle.gate_log.specs.Framed.{framed}
-use Rattle.gate_log.specs.Gates.{Gated, open_gate}
+use Rattle.gate_log.specs.Gates.{Gated, IsWritten, open_gate}
 use Rattle.gate_log.specs.Places.{IsApart, need_of, region_of, tail_of}
 use Rattle.gate_log.specs.declared.region.Region.{Region}
 use Rattle.gate_log.proofs.GateLemmas.{Staged, staged, gated_torn, gate_written, gate_torn}
@@ -42,12 +42,12 @@ module _ (region : Region) (gate sequence : ℕ) (payloads : List (List ℕ)) (p
         subst (λ (l : List ℕ). Staged l sequence payloads payload) (sym is) (staged sequence payloads payload (region_of region seen) gated short)
 
     pub appended : (new : List ℕ) → length middle ≡ length seen → new ≡ put_at middle (region.at + gate) (open_gate ∷ [])
-        → Gated (region_of region new) sequence (payloads ++ payload ∷ [])
+        → IsWritten (region_of region new) sequence (payloads ++ payload ∷ [])
     appended new as_long is =
         let here : region_of region new ≡ put_at (region_of region middle) (tail_of payloads) (open_gate ∷ []) =
         ap (region_of region) is ∙ region_put region middle (open_gate ∷ []) gate (omega arith) (omega arith)
         ∙ ap (λ (i : ℕ). put_at (region_of region middle) i (open_gate ∷ [])) gate_is in
-        subst (λ (l : List ℕ). Gated l sequence (payloads ++ payload ∷ [])) (sym here)
+        subst (λ (l : List ℕ). IsWritten l sequence (payloads ++ payload ∷ [])) (sym here)
         (gate_written sequence payloads payload (region_of region middle) stands)
 
     -- a crash in the second write or its sync

@@ -6,7 +6,7 @@ use Rattle.byteorder.specs.Endian.{big_bytes}
 use Rattle.media_disk.specs.Content.{put_at, Torn}
 use Rattle.gate_log.specs.Crashes.{OldOrNew}
 use Rattle.gate_log.specs.Framed.{framed}
-use Rattle.gate_log.specs.Gates.{Gated, open_gate, open_part, frame, AreFramed}
+use Rattle.gate_log.specs.Gates.{IsWritten, Gated, open_gate, open_part, frame, AreFramed}
 use Rattle.gate_log.specs.Places.{tail_of}
 use Rattle.gate_log.specs.laws.Spelling.{length-open_part, open_part-push, are_framed-push}
 
@@ -75,15 +75,18 @@ opened sequence payloads payload rest =
     ap (λ (l : List ℕ). front ++ open_gate ∷ l) spelled ∙ ap (λ (l : List ℕ). front ++ l) (sym whole)
     ∙ sym (append_assoc front (frame payload) (0 ∷ rest)) ∙ ap (λ (l : List ℕ). l ++ 0 ∷ rest) (sym (open_part-push sequence payloads payload))
 
-gated_new : (sequence : ℕ) (payloads : List (List ℕ)) (payload region new : List ℕ) (stands : Staged region sequence payloads payload)
-    → new ≡ open_part sequence payloads ++ open_gate ∷ (framed payload ++ stands.rest) → Gated new sequence (payloads ++ payload ∷ [])
-gated_new sequence payloads payload region new stands is = record {
-  gate = 0;
-  rest = stands.rest;
-  closed = omega arith;
-  spelled = is ∙ opened sequence payloads payload stands.rest;
-  framed = are_framed-push payloads payload stands.framed stands.payload_fits;
-  sequence_fits = stands.sequence_fits;
+written_new : (sequence : ℕ) (payloads : List (List ℕ)) (payload region new : List ℕ) (stands : Staged region sequence payloads payload)
+    → new ≡ open_part sequence payloads ++ open_gate ∷ (framed payload ++ stands.rest) → IsWritten new sequence (payloads ++ payload ∷ [])
+written_new sequence payloads payload region new stands is = record {
+  gated = record {
+    gate = 0;
+    rest = stands.rest;
+    closed = omega arith;
+    spelled = is ∙ opened sequence payloads payload stands.rest;
+    framed = are_framed-push payloads payload stands.framed stands.payload_fits;
+    sequence_fits = stands.sequence_fits;
+  };
+  gate_is = λ i. 0;
 }
 
 gate_at : (sequence : ℕ) (payloads : List (List ℕ)) (payload region : List ℕ) (stands : Staged region sequence payloads payload)
@@ -99,10 +102,10 @@ gate_at sequence payloads payload region stands =
 
 -- once the gate is written the batch counts
 pub gate_written : (sequence : ℕ) (payloads : List (List ℕ)) (payload region : List ℕ) → Staged region sequence payloads payload
-    → Gated (put_at region (tail_of payloads) (open_gate ∷ [])) sequence (payloads ++ payload ∷ [])
+    → IsWritten (put_at region (tail_of payloads) (open_gate ∷ [])) sequence (payloads ++ payload ∷ [])
 gate_written sequence payloads payload region stands =
     let known = gate_at sequence payloads payload region stands in
-    gated_new sequence payloads payload region _ stands
+    written_new sequence payloads payload region _ stands
     (ap (λ (l : List ℕ). l ++ open_gate ∷ drop (tail_of payloads + 1) region) known.0
     ∙ ap (λ (l : List ℕ). open_part sequence payloads ++ open_gate ∷ l) known.1)
 
@@ -121,6 +124,6 @@ gate_torn sequence payloads payload region new stands torn =
     let whole : new ≡ front ++ gate ∷ behind =
     sym (take-append-drop place new) ∙ ap (λ (l : List ℕ). l ++ drop place new) (torn.before ∙ known.0) ∙ ap (λ (l : List ℕ). front ++ l) rest_is in
     elim (cases_eq gate open_gate) [
-      | inl is_open ↦ inr (gated_new sequence payloads payload region new stands (whole ∙ ap (λ (g : ℕ). front ++ g ∷ behind) is_open))
+      | inl is_open ↦ inr (written_new sequence payloads payload region new stands (whole ∙ ap (λ (g : ℕ). front ++ g ∷ behind) is_open)).gated
       | inr differs ↦ inl (record { gate = gate; rest = behind; closed = differs; spelled = whole; framed = stands.framed; sequence_fits = stands.sequence_fits })
     ]

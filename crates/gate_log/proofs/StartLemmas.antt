@@ -12,7 +12,7 @@ use Rattle.media_disk.specs.declared.device.Device.{Ghosts}
 use Rattle.media_disk.specs.laws.Images.{torn_same, image_now, one_image}
 use Rattle.media_disk.specs.laws.Leaves.{leaves_more, leaves_joined, leaves_now, leaves_read}
 use Rattle.gate_log.specs.Crashes.{IsTornFrom, IsWithin, LeavesRegion, ClosedOrSame, ClosedOrStarted}
-use Rattle.gate_log.specs.Gates.{Gated, IsClosed, open_gate, least_size}
+use Rattle.gate_log.specs.Gates.{Gated, IsWritten, IsClosed, open_gate, least_size}
 use Rattle.gate_log.specs.Places.{IsApart, region_of}
 use Rattle.gate_log.specs.declared.region.Region.{Region}
 use Rattle.gate_log.specs.laws.Ranges.{torn_twice}
@@ -64,15 +64,18 @@ opening_put : (region : List ℕ) (sequence : ℕ) → 1 ≤ length region → I
 opening_put [] sequence some = absurd (omega arith)
 opening_put (gate ∷ rest) sequence some = (gate, drop (1 + length (opening sequence)) (gate ∷ rest), refl)
 
-gated_none : (sequence : ℕ) (rest region : List ℕ) → sequence < 2 ^ 64 → region ≡ open_gate ∷ (opening sequence ++ rest) → Gated region sequence []
-gated_none sequence rest region fits is = record {
-  gate = 0;
-  rest = rest;
-  closed = omega arith;
-  spelled = is ∙ ap (λ (l : List ℕ). open_gate ∷ l)
-      (append_assoc (big_bytes 8 sequence) (0 ∷ []) rest ∙ ap (λ (l : List ℕ). l ++ 0 ∷ rest) (sym (append-nil (big_bytes 8 sequence))));
-  framed = tt;
-  sequence_fits = fits;
+written_none : (sequence : ℕ) (rest region : List ℕ) → sequence < 2 ^ 64 → region ≡ open_gate ∷ (opening sequence ++ rest) → IsWritten region sequence []
+written_none sequence rest region fits is = record {
+  gated = record {
+    gate = 0;
+    rest = rest;
+    closed = omega arith;
+    spelled = is ∙ ap (λ (l : List ℕ). open_gate ∷ l)
+        (append_assoc (big_bytes 8 sequence) (0 ∷ []) rest ∙ ap (λ (l : List ℕ). l ++ 0 ∷ rest) (sym (append-nil (big_bytes 8 sequence))));
+    framed = tt;
+    sequence_fits = fits;
+  };
+  gate_is = refl;
 }
 
 head_torn : (sequence : ℕ) (region new old : List ℕ) → sequence < 2 ^ 64 → IsOpening region sequence → Torn 0 1 region new
@@ -81,7 +84,7 @@ head_torn sequence region [] old fits (gate, rest, is) torn = inl (inl tt)
 head_torn sequence region (head ∷ new) old fits (gate, rest, is) torn =
     let behind : new ≡ opening sequence ++ rest = torn.after ∙ ap (drop 1) is in
     elim (cases_eq head open_gate) [
-      | inl is_open ↦ inr (gated_none sequence rest (head ∷ new) fits (λ i. is_open i ∷ behind i))
+      | inl is_open ↦ inr (written_none sequence rest (head ∷ new) fits (λ i. is_open i ∷ behind i)).gated
       | inr differs ↦ inl (inl differs)
     ]
 
@@ -132,9 +135,9 @@ module _ (region : Region) (size : 1 ≤ region.size) where
 
     -- the opened head is written before the sequence
     pub started : (new : List ℕ) → sequence < 2 ^ 64 → length second ≡ length first → new ≡ put_at second region.at (open_gate ∷ [])
-        → Gated (region_of region new) sequence []
+        → IsWritten (region_of region new) sequence []
     started new fits long is =
-        gated_none sequence is_opening.1 (region_of region new) fits
+        written_none sequence is_opening.1 (region_of region new) fits
         (ap (region_of region) is ∙ head_put second open_gate (omega (arith, inside, long))
         ∙ ap (λ (l : List ℕ). open_gate ∷ drop 1 l) is_opening.2)
 

@@ -20,7 +20,7 @@ least_size = 10
 abbrev pub frame_size : ℕ
 frame_size = 5
 
--- An open gate. Every other byte is a closed one, and a closed one is written as 0.
+-- An open gate. Every other byte is a closed one.
 abbrev pub open_gate : ℕ
 open_gate = 79
 
@@ -44,6 +44,15 @@ pub record Gated (region : List ℕ) (sequence : ℕ) (payloads : List (List ℕ
   pub spelled : region ≡ open_part sequence payloads ++ gate ∷ rest
   pub framed : AreFramed payloads
   pub sequence_fits : sequence < 2 ^ 64
+
+-- the byte that a closed gate is written as
+abbrev pub closed_gate : ℕ
+closed_gate = 0
+
+-- The region holds these batches, and the closed gate behind them was written.
+pub record IsWritten (region : List ℕ) (sequence : ℕ) (payloads : List (List ℕ)) : Type 0 where
+  pub gated : Gated region sequence payloads
+  pub gate_is : gated.gate ≡ closed_gate
 
 -- The region's head is closed, so it holds nothing.
 abbrev pub IsClosed : List ℕ → Type 0

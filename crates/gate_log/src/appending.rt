@@ -3,7 +3,7 @@ ghost use Rattle.std.specs.Prelude.{◌≡◌, ◌<◌, ℕ, List, [], ◌∷◌
 ghost use Rattle.media_disk.specs.Calls.{CallsMade};
 ghost use Rattle.media_disk.specs.Content.{Torn};
 ghost use Rattle.gate_log.specs.Answers.{IsAppendAnswer, AppendReports};
-ghost use Rattle.gate_log.specs.Gates.{Gated};
+ghost use Rattle.gate_log.specs.Gates.{Gated, IsWritten};
 ghost use Rattle.gate_log.specs.Places.{region_of, tail_of, IsApart, LiesIn};
 ghost use Rattle.gate_log.specs.Crashes.{LeavesRegion, OldOrNew};
 
@@ -57,7 +57,8 @@ pub fn append<D: Disk>(
     ensures appended { D.tells → OnOk result ((sequence : ℕ) (payloads : List (List ℕ))
         → tail.old.place ≡ tail_of payloads
         → Gated (region_of region.now (D.seen disk.old)) sequence payloads
-        → Gated (region_of region.now (D.seen disk.new)) sequence (payloads ++ batch.now ∷ [])) }
+        → IsWritten (region_of region.now (D.seen disk.new)) sequence
+        (payloads ++ batch.now ∷ [])) }
     ensures others { D.tells
         → Torn region.now.at region.now.size (D.seen disk.old) (D.seen disk.new) }
     ensures durable { D.tells → OnOk result (D.pending disk.new ≡ []) }

@@ -35,10 +35,11 @@ pub record Entered {T E : Type 0} (old new : History) (work : Work) (is_listed :
   pub ok : OnOk result ((is_listed ≡ false) × Recorded old new work false)
   pub err : OnErr result (((is_listed ≡ true) × Recorded old new work true) ⊎ Unentered old new is_listed)
 
--- The same for a write from a place on over these bytes: the record of one that succeeds keeps them.
+-- The same for a write that is not listed, from a place on over these bytes: the record of one that succeeds keeps them,
+-- and one that fails is not put into the record.
 pub record WriteEntered {T E : Type 0} (old new : History) (at : ℕ) (over : List ℕ) (result : Result T E) : Type 0 where
   pub ok : OnOk result ((kept : Vec ℕ Global) × (kept.items ≡ over) × Recorded old new (Write at kept) false)
-  pub err : OnErr result (Recorded old new (FailedWrite at (length over)) true ⊎ Unentered old new false)
+  pub err : OnErr result (Unentered old new false)
 
 -- a write is counted among the next ones, and all else stays
 pub record IsWriteCounted (old new : History) : Type 0 where

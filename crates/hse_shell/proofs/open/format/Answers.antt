@@ -26,6 +26,6 @@ returns-clause-serves g c =
     (record { count = c.requires.idle.count; waiting = c.requires.idle.waiting }) c.requires.unmarked c.note.ensures.marks sized
     (omega (arith, c.clock.ensures))
     (λ told. started (g.D.Device.seen disk) (g.D.Device.pending disk) c.in_ok-tail.tail.place _ (g.met.D.Disk.as_long disk told ∙ sized)
-    (c.in_ok-tail.ensures.started told) c.requires.base c.in_ok-tail.ensures.tail (c.in_ok-tail.ensures.durable told))
+    (c.in_ok-tail.ensures.started told).gated c.requires.base c.in_ok-tail.ensures.tail (c.in_ok-tail.ensures.durable told))
     (λ told image might. only_seen (g.D.Device.seen disk) image (g.D.Device.pending disk) (c.in_ok-tail.ensures.durable told)
     (g.met.D.Disk.only_now disk image told (subst (λ (clock : ℕ). g.D.Device.could disk clock image) c.clock.ensures might)))

@@ -26,7 +26,7 @@ returns-clause-synced g c m s =
       logged = λ told. let l = s.logged told in
           flush_logged m s.stands.synced within numbers s.stands.logged some _ is _ _ _ _ _ _ l
           (g.met.D.Disk.as_long c.append.new.disk told ∙ c.append.ensures.extent ∙ s.sized)
-          (c.in-Ok-append.ensures.appended told l.stores.loads.sequence l.stores.loads.payloads l.tail l.stores.loads.gated)
+          (c.in-Ok-append.ensures.appended told l.stores.loads.sequence l.stores.loads.payloads l.tail l.stores.loads.gated).gated
           c.in-Ok-append.ensures.answer.0 (c.in-Ok-append.ensures.durable told);
       marks_are = marks_later _ _ _ _ c.append.ensures.calls.forward s.marks_are;
       marks = λ told. let l = s.logged told in
