@@ -368,6 +368,12 @@ module _ (m : Core) (good : IsWithinLimits m) where
       let self : number_of m ≤ number_of m = omega arith in
       (good.until_now, self, fits)
 
+  -- a turn up to what is safe
+  up_to_safe : (plan : Plan) → PlanFits m.sizes plan → (m.safe ≤ m.safe) × (m.safe ≤ number_of m) × PlanFits m.sizes plan
+  up_to_safe plan fits =
+      let self : m.safe ≤ m.safe = omega arith in
+      (self, good.until_now, fits)
+
   with_log : (log : LogState) → LogFits m.sizes log → IsWithinLimits (record m { log = log })
   with_log log fits = record {
     history = good.history;
@@ -423,7 +429,7 @@ module _ (m : Core) (good : IsWithinLimits m) where
       found_job IsWithinLimits m id is_built (install_refusal m) _
       (λ job is passed.
       with_turn_within (with_installing m job) (installing_within m good job passed) _ m.is_broken
-      (up_to_now (with_installing m job) (installing_within m good job passed)
+      (up_to_safe (with_installing m job) (installing_within m good job passed)
       (installs id job.work job.sets (entered m (install_entry m job.work job.sets))) (install_entry_fits m good job passed))) none
   taking_within (create name mode prefix) none =
       let first = passes (is_some (store_named (now m) name)) replies.store_exists _ none in
