@@ -41,3 +41,5 @@ pub mod CoreLimits
 pub mod CoreRecords
 pub mod TurnLemmas
 pub mod ScriptGoes
+pub mod JobLemmas
+pub mod ScriptRuns

@@ -26,11 +26,11 @@ use Rattle.hse_rows.proofs.IsolationLemmas.{opened_isolated, goes_isolated, are_
 use Rattle.hse_rows.proofs.CoreGoes.{done_goes, done_keeps, refused_keeps}
 
 -- what the core does not refuse
-not_told : (s : Script) (reason : Option (Refusal ℕ)) → told s reason ≡ None → reason ≡ None
+pub not_told : (s : Script) (reason : Option (Refusal ℕ)) → told s reason ≡ None → reason ≡ None
 not_told s None none = refl
 not_told s (Some reason) none = absurd cc
 
-passed : (test : Bool) (reason : Refusal (List ℕ)) (later : Option (Refusal (List ℕ))) → refuse test reason later ≡ None → later ≡ None
+pub passed : (test : Bool) (reason : Refusal (List ℕ)) (later : Option (Refusal (List ℕ))) → refuse test reason later ≡ None → later ≡ None
 passed true reason later none = absurd cc
 passed false reason later none = none
 
