@@ -43,3 +43,6 @@ pub mod TurnLemmas
 pub mod ScriptGoes
 pub mod JobLemmas
 pub mod ScriptRuns
+pub mod LineCalls
+pub mod LineSteps
+pub mod LineAnswers

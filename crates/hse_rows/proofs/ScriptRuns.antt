@@ -46,10 +46,10 @@ takes m (drop name) none =
 
 module _ (f : Found) where
   -- a call alone
-  one : (m : Core) (c : Call) → IsOther c → core.refusal m c ≡ None → Leads f m (c ∷ []) (leads.done m c)
+  pub one : (m : Core) (c : Call) → IsOther c → core.refusal m c ≡ None → Leads f m (c ∷ []) (leads.done m c)
   one m c other none = (leads.done m c, replied.reply m c, call_passes f m c other none, refl)
 
-  turn_led : (m : Core) (wish : TurnWish) → take_refusal m wish ≡ None → Leads f m (turn_calls wish) (turned m wish)
+  pub turn_led : (m : Core) (wish : TurnWish) → take_refusal m wish ≡ None → Leads f m (turn_calls wish) (turned m wish)
   turn_led m wish none =
       let out = (takes m wish none).1 in
       let taken_one : Core = leads.done m (call.take wish) in
@@ -65,7 +65,7 @@ module _ (f : Found) where
         ),
       )
 
-  turn_failed_led : (m : Core) (wish : TurnWish) → take_refusal m wish ≡ None → Calls (leads.done m (call.take wish)).turn
+  pub turn_failed_led : (m : Core) (wish : TurnWish) → take_refusal m wish ≡ None → Calls (leads.done m (call.take wish)).turn
       → Leads f m (turn_calls wish) (turn_failed m wish)
   turn_failed_led m wish none calls =
       let out = (takes m wish none).1 in
@@ -96,7 +96,7 @@ module _ (f : Found) where
         subst (λ (c : Core). core.refusal c (call.build m.picked) ≡ None) (sym it.1) (build_passes m numbered it.0 it.2)
 
     -- the pick and the build, and then others
-    built_first : (calls : List Call) (new : Core) → Leads f (with_built m wish) calls new
+    pub built_first : (calls : List Call) (new : Core) → Leads f (with_built m wish) calls new
         → Leads f m (call.pick wish ∷ call.build m.picked ∷ calls) new
     built_first calls new later =
         let picked_one : Core = leads.done m (call.pick wish) in (
@@ -112,7 +112,7 @@ module _ (f : Found) where
         ap (λ (c : Core). leads.done c (call.build m.picked)) it.1 ∙ built_is m numbered it.0
 
     -- a job that is refused after its build is dropped
-    refused_led : (reason : Refusal ℕ) → core.refusal (with_built m wish) (call.take (install m.picked)) ≡ Some reason
+    pub refused_led : (reason : Refusal ℕ) → core.refusal (with_built m wish) (call.take (install m.picked)) ≡ Some reason
         → Leads f m (call.pick wish ∷ call.build m.picked ∷ call.take (install m.picked) ∷ call.drop_job m.picked ∷ []) (record m { picked = m.picked + 1 })
     refused_led reason is =
         built_first (call.take (install m.picked) ∷ call.drop_job m.picked ∷ []) (record m { picked = m.picked + 1 }) (
@@ -125,7 +125,7 @@ module _ (f : Found) where
         )
 
     -- and so is one that lacks memory
-    dropped_led : Leads f m (call.pick wish ∷ call.drop_job m.picked ∷ []) (record m { picked = m.picked + 1 })
+    pub dropped_led : Leads f m (call.pick wish ∷ call.drop_job m.picked ∷ []) (record m { picked = m.picked + 1 })
     dropped_led =
         let it = picks m wish none in (
           leads.done m (call.pick wish),
@@ -135,36 +135,3 @@ module _ (f : Found) where
               (subst (Leads f (with_picked m it.0) (call.drop_job m.picked ∷ [])) (picked_gone m numbered it.0)
               (one (with_picked m it.0) (call.drop_job m.picked) tt (picked_drops m numbered it.0))),
         )
-
--- ---- lines
-
--- what is looked up
-module _ (f : Found) (s : Script) where
-  looked_up : {X : Type 0} (it : Option X) (reason : Refusal (List ℕ)) (later : X → Option (Refusal (List ℕ))) (calls : X → List Call) (leads_to : X → Script)
-      → ((x : X) → later x ≡ None → Leads f s.core (calls x) (leads_to x).core) → for_some it (Some reason) later ≡ None
-      → Leads f s.core (for_some it [] calls) (for_some it s leads_to).core
-  looked_up None reason later calls leads_to each none = absurd cc
-  looked_up (Some x) reason later calls leads_to each none = each x none
-
-  -- the core stays
-  stays : {X : Type 0} (it : Option X) (leads_to : X → Script) → ((x : X) → (leads_to x).core ≡ s.core) → (for_some it s leads_to).core ≡ s.core
-  stays None leads_to each = refl
-  stays (Some x) leads_to each = each x
-
-  called : (c : Call) → IsOther c → asked s c ≡ None → Leads f s.core (c ∷ []) (leads.done s.core c)
-  called c other none = one f s.core c other (not_told s (core.refusal s.core c) none)
-
-  edge_passed : (edge : List ℕ) (later : Option (Refusal (List ℕ))) → edge_refusal edge later ≡ None → later ≡ None
-  edge_passed edge later none = passed _ (replies.key_length _) later none
-
-  store_opened : (name store filter : List ℕ) (state : State) (leads_to : _ → Script) → ((found : _) → (leads_to found).core ≡ leads.done s.core call.take_place)
-      → refuse (not (is_some (store_named state store))) replies.no_store (edge_refusal filter (asked s call.take_place)) ≡ None
-      → Leads f s.core (call.take_place ∷ []) (for_some (store_named state store) s leads_to).core
-  store_opened name store filter state leads_to each none = by (store_named state store) none
-    where
-      by : (it : Option _) → refuse (not (is_some it)) replies.no_store (edge_refusal filter (asked s call.take_place)) ≡ None
-          → Leads f s.core (call.take_place ∷ []) (for_some it s leads_to).core
-      by None none = absurd cc
-      by (Some x) none =
-          subst (Leads f s.core (call.take_place ∷ [])) (sym (each x))
-          (called call.take_place tt (edge_passed filter (asked s call.take_place) none))

@@ -1,18 +1,23 @@
 -- Laws of the script machine, each the clause of a function of `src/script_laws.rt`.
-use Rattle.std.specs.Prelude.{◌≡◌, ℕ, ◌-◌, true, List, [], ◌∷◌, Some}
+use Rattle.std.specs.Prelude.{◌≡◌, ◌≢◌, ◌⊎◌, ℕ, ◌-◌, true, List, [], ◌∷◌, Some, None}
+use Rattle.std.specs.List.{AllByRecursion}
 use Rattle.hse_rows.specs.declared.store.Mode.{Mode}
 use Rattle.hse_rows.specs.State.{Store, store_named}
 use Rattle.hse_rows.specs.Isolation.{IsIsolated, AreIsolated}
 use Rattle.hse_rows.specs.Moves as move
 use Rattle.hse_rows.specs.Turn.{sync, create, drop, home}
-use Rattle.hse_rows.specs.Replies.{Answer}
-use Rattle.hse_rows.specs.Core.{Core, Stored, life, blocks_in, now, number_of, with_move, layout_but}
+use Rattle.hse_rows.specs.Replies.{Refusal, Answer, refused, no_memory, device_fault}
+use Rattle.hse_rows.specs.Calls.{Call}
+use Rattle.hse_rows.specs.Calls as call
+use Rattle.hse_rows.specs.Core.{Core, JobsAreNumbered, Stored, life, blocks_in, now, number_of, with_move, layout_but}
 use Rattle.hse_rows.specs.ManifestEntry.{creation_entry, drop_entry, entered}
 use Rattle.hse_rows.specs.CoreStep.{Found}
-use Rattle.hse_rows.specs.ScriptLines.{Line}
+use Rattle.hse_rows.specs.ScriptLines.{Line, end_turn, reopen}
 use Rattle.hse_rows.specs.Script.{Script, begins_with}
-use Rattle.hse_rows.specs.ScriptDone.{turned, turn_failed}
-use Rattle.hse_rows.specs.ScriptStep.{Step}
+use Rattle.hse_rows.specs.ScriptRefusal.{refusal}
+use Rattle.hse_rows.specs.ScriptDone.{turned, turn_failed, once_picked}
+use Rattle.hse_rows.specs.ScriptStep.{Step, answer_of, led_to}
+use Rattle.hse_rows.specs.ScriptCalls.{Leads, calls_of}
 
 -- ---- the phases of a turn in a row do what one step would
 
@@ -49,6 +54,56 @@ DropsAreOneStep =
       used_slots = m.used_slots - (blocks_in m.layout - blocks_in (layout_but m.layout store.id));
     })
     × (turn_failed m (drop name) ≡ record (with_move m (move.remove store.id)) { is_broken = true; turn = home })
+
+-- ---- lines as calls of the core
+
+-- Each step of the script machine leads the core on by calls, each answered as it may be. No line but a reopening reopens.
+abbrev pub LinesAreCalls : Type 0
+LinesAreCalls =
+    (found : Found) (old new : Script) (line : Line) (answer : Answer (List ℕ))
+    → JobsAreNumbered old.core → Step found old line answer new
+    → (calls : List Call) × Leads found old.core calls new.core
+    × (line ≢ reopen → AllByRecursion (λ one. one ≢ call.reopen) calls)
+
+-- And those of a line that nothing refuses are its phases in a row.
+abbrev pub LinesAreTheirPhases : Type 0
+LinesAreTheirPhases =
+    (found : Found) (old new : Script) (line : Line) (answer : Answer (List ℕ))
+    → JobsAreNumbered old.core → refusal old line ≡ None → answer ≢ no_memory → Step found old line answer new
+    → Leads found old.core (calls_of old line) new.core
+
+-- ---- answers
+
+-- But for want of memory, an answer leads one way.
+abbrev pub LinesLeadOneWay : Type 0
+LinesLeadOneWay =
+    (found : Found) (old new : Script) (line : Line) (answer : Answer (List ℕ))
+    → answer ≢ no_memory → Step found old line answer new → new ≡ led_to found old line answer
+
+-- Want of memory changes nothing, but that a job may have been picked and is gone again.
+abbrev pub WantOfMemoryChangesNothing : Type 0
+WantOfMemoryChangesNothing =
+    (found : Found) (old new : Script) (line : Line)
+    → Step found old line no_memory new → (new ≡ old) ⊎ (new ≡ once_picked old)
+
+-- A refusal changes nothing, but that an end gives a turn back whose device calls failed, and that a job was picked and is
+-- gone again.
+abbrev pub RefusalsChangeNothing : Type 0
+RefusalsChangeNothing =
+    (found : Found) (old new : Script) (line : Line) (reason : Refusal (List ℕ))
+    → line ≢ end_turn → Step found old line (refused reason) new → (new ≡ old) ⊎ (new ≡ once_picked old)
+
+-- But for want of memory and a device fault, a line has one answer.
+abbrev pub LinesHaveOneAnswer : Type 0
+LinesHaveOneAnswer =
+    (found : Found) (old new : Script) (line : Line) (answer : Answer (List ℕ))
+    → answer ≢ no_memory → answer ≢ device_fault → Step found old line answer new → answer ≡ answer_of found old line
+
+-- And that is an answer of the machine's.
+abbrev pub LinesAreAnswered : Type 0
+LinesAreAnswered =
+    (found : Found) (old : Script) (line : Line)
+    → Step found old line (answer_of found old line) (led_to found old line (answer_of found old line))
 
 -- ---- snapshot isolation of scripts
 
