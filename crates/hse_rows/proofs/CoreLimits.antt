@@ -1,7 +1,8 @@
 -- Calls that nothing refuses keep within the limits.
-use Rattle.std.proofs.Common.{◌≡◌, ℕ, ◌+◌, ◌-◌, ◌^◌, ◌<◌, ◌≤◌, ◌==◌, nat_lt, nat_le, Bool, true, false, not, cond, ◌&&◌, ◌||◌, List, [], ◌∷◌, ◌++◌, length, Option, Some, None, is_some, refl, sym, ◌∙◌, ap, subst, arith, zero-add, length-append}
-use Rattle.std.specs.List.{filter}
-use Rattle.std.proofs.lemmas.List.{length-map}
+use Rattle.std.proofs.Common.{◌≡◌, ℕ, zero, suc, ◌+◌, ◌-◌, ◌^◌, ◌<◌, ◌≤◌, ◌==◌, nat_lt, nat_le, Bool, true, false, not, cond, ◌&&◌, ◌||◌, List, [], ◌∷◌, ◌++◌, length, Option, Some, None, is_some, refl, sym, ◌∙◌, ap, subst, arith, zero-add, length-append}
+use Rattle.std.specs.Prelude.{set}
+use Rattle.std.specs.List.{slice_get, filter}
+use Rattle.std.proofs.lemmas.List.{length-map, length-set}
 use Rattle.std.proofs.lemmas.List.Sums.{sum_by-append}
 use Rattle.std.proofs.lemmas.Bool.Decides.{nat_tests}
 use Rattle.hse_rows.specs.declared.store.Mode.{Mode}
@@ -13,7 +14,7 @@ use Rattle.hse_rows.specs.State.{Store, State, store_named}
 use Rattle.hse_rows.specs.Holding.{written_all, applied_all-stores}
 use Rattle.hse_rows.specs.History.{Event, commits, creates, drops, new_store, happened, folded, last_number}
 use Rattle.hse_rows.specs.Folding.{folded_push}
-use Rattle.hse_rows.specs.Transaction.{Transaction}
+use Rattle.hse_rows.specs.Transaction.{Transaction, committed, aborted, is_active, begins, staged, ended}
 use Rattle.hse_rows.specs.Moves as move
 use Rattle.hse_rows.specs.Timeline.{Timeline, transaction_of, snapshot_of, for_some, committing, moved}
 use Rattle.hse_rows.specs.Log.{LogState, Frozen, Numbered, charge_of_active, room_of, room_left, logged}
@@ -27,13 +28,14 @@ use Rattle.hse_rows.specs.Turn as turns
 use Rattle.hse_rows.specs.Replies as replies
 use Rattle.hse_rows.specs.Replies.{Refusal, Answer}
 use Rattle.hse_rows.specs.Calls.{outside, inside, Call, begin, write_by, get, commit, abort, list_stores, tree, info, take_place, give_place, pick, build, drop_job, next_job, take, write_turn, end_turn, reopen}
-use Rattle.hse_rows.specs.Core.{Core, life, now, number_of, oldest, free_slots, write_to, with_move, most_jobs, most_cursors, longest_prefix}
+use Rattle.hse_rows.specs.Core.{Core, life, live, now, number_of, oldest, most_transactions, greatest_number, free_slots, write_to, with_move, most_jobs, most_cursors, longest_prefix}
 use Rattle.hse_rows.specs.ManifestEntry.{ManifestEntry, whole_need, has_no_room, entered, creation_entry, drop_entry, install_entry}
 use Rattle.hse_rows.specs.CoreRefusal.{refusal, refuse, is_tx, is_spent, room_refusal, outside_refusal, inside_refusal, commit_refusal, pick_refusal, is_log_busy, entry_refusal, install_refusal, drop_refusal, take_refusal, first_in_store}
 use Rattle.hse_rows.specs.CoreDone.{done, refused_to, failing, without_job, with_state, with_picked, picking, building, log_with, committing_write, frozen_log, with_installing, taking, without_oldest, oldest_gone, log_after, planned, ending, ending_failed, given_up, run_of}
-use Rattle.hse_rows.specs.Limits.{HistoryFits, LogFits, ManifestFits, PlanFits, TurnFits, IsWithinLimits}
+use Rattle.hse_rows.specs.Limits.{HistoryFits, LogFits, ManifestFits, TransactionsFit, JobsFit, PlanFits, TurnFits, IsWithinLimits}
 use Rattle.hse_rows.specs.CoreStep.{Found, loads, breaks_off, has_version, Reopens, Step}
 use Rattle.hse_rows.specs.CoreLaws.{LoadsWithinLimits}
+use Rattle.hse_rows.proofs.JobLemmas.{joined_below, further_below, led_below, fewer_below}
 use Rattle.hse_rows.proofs.PassLemmas.{passes, change_passes, size_passes, not_busy, not_busy_with, not_held, found, found_transaction, found_job, is_there}
 
 -- ---- numbers
@@ -187,13 +189,89 @@ later_turn sizes safe number later (ran turn has_failed) more fits =
     let there : turn.number ≤ later = omega (arith, before, more) in
     (fits.0, there, fits.2)
 
+-- ---- transactions
+
+more_live : (p : Transaction → Bool) (begun : List Transaction) (last : Transaction) → length (filter p (begun ++ last ∷ [])) ≤ length (filter p begun) + 1
+more_live p [] last = elim (p last) as (λ b. length (cond b (last ∷ []) []) ≤ 1) [ true ↦ omega arith | false ↦ omega arith ]
+more_live p (first ∷ begun) last =
+    let rest : length (filter p (begun ++ last ∷ [])) ≤ length (filter p begun) + 1 = more_live p begun last in
+    elim (p first)
+    as (λ b. length (cond b (first ∷ filter p (begun ++ last ∷ [])) (filter p (begun ++ last ∷ [])))
+    ≤ length (cond b (first ∷ filter p begun) (filter p begun)) + 1) [
+      | true ↦ omega (arith, rest)
+      | false ↦ omega (arith, rest)
+    ]
+
+one_begins : (begun : List Transaction) (last : Transaction) → TransactionsFit begun
+    → length (filter (λ transaction. is_active transaction.state) begun) < 1024 → length begun < 2 ^ 62 → TransactionsFit (begun ++ last ∷ [])
+one_begins begun last good few low =
+    let more = more_live (λ transaction. is_active transaction.state) begun last in
+    let longer = length-append begun (last ∷ []) in
+    record { live = omega (arith, few, more); begins = omega (arith, low, longer) }
+
+-- another in its place, that is not live where it was not
+no_more_live : (p : Transaction → Bool) (begun : List Transaction) (order : ℕ) (old new : Transaction) → slice_get begun order ≡ Some old
+    → (p new ≡ true → p old ≡ true) → length (filter p (set begun order new)) ≤ length (filter p begun)
+no_more_live p [] order old new is still = omega arith
+no_more_live p (first ∷ begun) zero old new is still =
+    let same : first ≡ old = cc in
+    by (p new) (p first) (λ e. subst (λ (t : Transaction). p t ≡ true) (sym same) (still e))
+  where
+    by : (b c : Bool) → (b ≡ true → c ≡ true) → length (cond b (new ∷ filter p begun) (filter p begun)) ≤ length (cond c (first ∷ filter p begun) (filter p begun))
+    by true true still = omega arith
+    by true false still = absurd (let no : false ≡ true = still refl in cc)
+    by false true still = omega arith
+    by false false still = omega arith
+no_more_live p (first ∷ begun) (suc order) old new is still =
+    let rest : length (filter p (set begun order new)) ≤ length (filter p begun) = no_more_live p begun order old new is still in
+    elim (p first)
+    as (λ b. length (cond b (first ∷ filter p (set begun order new)) (filter p (set begun order new)))
+    ≤ length (cond b (first ∷ filter p begun) (filter p begun))) [
+      | true ↦ omega (arith, rest)
+      | false ↦ omega (arith, rest)
+    ]
+
+one_other : (begun : List Transaction) (order : ℕ) (old new : Transaction) → slice_get begun order ≡ Some old
+    → (is_active new.state ≡ true → is_active old.state ≡ true) → TransactionsFit begun → TransactionsFit (set begun order new)
+one_other begun order old new is still good =
+    let fewer_live = no_more_live (λ transaction. is_active transaction.state) begun order old new is still in
+    let few : length (filter (λ transaction. is_active transaction.state) begun) ≤ 1024 = good.live in
+    let same_length : length (set begun order new) ≡ length begun = length-set begun order new in
+    let low : length begun ≤ 2 ^ 62 = good.begins in
+    record { live = omega (arith, fewer_live, few); begins = omega (arith, same_length, low) }
+
+-- ---- jobs
+
+picked_fits : (jobs : List Job) (picked : ℕ) (work : Work) → JobsFit jobs picked → length jobs < 64
+    → JobsFit (jobs ++ record { id = picked; work = work; state = job_states.picked; sets = [] } ∷ []) (picked + 1)
+picked_fits jobs picked work good few =
+    let job : Job = record { id = picked; work = work; state = job_states.picked; sets = [] } in
+    let more = length-append jobs (job ∷ []) in
+    let next : picked < picked + 1 = omega arith in
+    record {
+      live = omega (arith, few, more);
+      ids = joined_below (picked + 1) jobs job (further_below picked (picked + 1) jobs next good.ids) next;
+    }
+
+without_fits : (jobs : List Job) (picked id : ℕ) → JobsFit jobs picked → JobsFit (without_job jobs id) picked
+without_fits jobs picked id good =
+    let few : length jobs ≤ 64 = good.live in
+    let less : length (without_job jobs id) ≤ length jobs = fewer (λ (job : Job). not (job.id == id)) jobs in
+    record { live = omega (arith, few, less); ids = fewer_below picked (λ (job : Job). not (job.id == id)) jobs good.ids }
+
+led_fits : (jobs : List Job) (picked id : ℕ) (state : JobState) (new : List NewSet) → JobsFit jobs picked → JobsFit (with_state jobs id state new) picked
+led_fits jobs picked id state new good =
+    let few : length jobs ≤ 64 = good.live in
+    let same_length : length (with_state jobs id state new) ≡ length jobs = length-map jobs _ in
+    record { live = omega (arith, few, same_length); ids = led_below picked id state new jobs good.ids }
+
 -- ---- a core with another history and another log
 
 module _ (m : Core) (good : IsWithinLimits m) where
   grown : (timeline : Timeline) (log : LogState) → timeline.base ≡ m.timeline.base → HistoryFits m.sizes timeline.base timeline.history
-      → number_of m ≤ last_number timeline.base timeline.history → LogFits m.sizes log
+      → number_of m ≤ last_number timeline.base timeline.history → LogFits m.sizes log → TransactionsFit timeline.begun
       → IsWithinLimits (record m { timeline = timeline; log = log })
-  grown timeline log is fits more log_fits =
+  grown timeline log is fits more log_fits few =
       let since : m.timeline.base.number ≤ m.safe = good.since_base in
       let until : m.safe ≤ number_of m = good.until_now in
       record {
@@ -203,17 +281,18 @@ module _ (m : Core) (good : IsWithinLimits m) where
         slots = good.slots;
         since_base = subst (λ (s : State). s.number ≤ m.safe) (sym is) since;
         until_now = omega (arith, until, more);
+        transactions = few;
         jobs = good.jobs;
         cursors = good.cursors;
         turn = later_turn m.sizes m.safe (number_of m) (last_number timeline.base timeline.history) m.turn more good.turn;
       }
 
   -- the same history, and other transactions
-  same_history : (timeline : Timeline) → timeline.base ≡ m.timeline.base → timeline.history ≡ m.timeline.history
+  same_history : (timeline : Timeline) → timeline.base ≡ m.timeline.base → timeline.history ≡ m.timeline.history → TransactionsFit timeline.begun
       → IsWithinLimits (record m { timeline = timeline })
-  same_history timeline base_is history_is =
+  same_history timeline base_is history_is few =
       let number_is : last_number timeline.base timeline.history ≡ number_of m = λ i. last_number (base_is i) (history_is i) in
-      grown timeline m.log base_is (subst (λ (t : Timeline). HistoryFits m.sizes t.base t.history) both good.history) (omega (arith, number_is)) good.log
+      grown timeline m.log base_is (subst (λ (t : Timeline). HistoryFits m.sizes t.base t.history) both good.history) (omega (arith, number_is)) good.log few
     where
       both : record m.timeline { begun = timeline.begun } ≡ timeline
       both = λ i. record { base = sym base_is i; history = sym history_is i; begun = timeline.begun }
@@ -221,14 +300,14 @@ module _ (m : Core) (good : IsWithinLimits m) where
   -- one event more
   one_more : (timeline : Timeline) (log : LogState) (event : Event) → timeline.base ≡ m.timeline.base
       → timeline.history ≡ m.timeline.history ++ event ∷ [] → HistoryFits m.sizes m.timeline.base (m.timeline.history ++ event ∷ []) → LogFits m.sizes log
-      → IsWithinLimits (record m { timeline = timeline; log = log })
-  one_more timeline log event base_is history_is fits log_fits =
+      → TransactionsFit timeline.begun → IsWithinLimits (record m { timeline = timeline; log = log })
+  one_more timeline log event base_is history_is fits log_fits few =
       let number_is : last_number timeline.base timeline.history ≡ last_number m.timeline.base (m.timeline.history ++ event ∷ []) =
       λ i. last_number (base_is i) (history_is i) in
       let next = pushed_number m.timeline.base m.timeline.history event in
       grown timeline log base_is
       (subst (λ (t : Timeline). HistoryFits m.sizes t.base t.history) both fits)
-      (omega (arith, number_is, next)) log_fits
+      (omega (arith, number_is, next)) log_fits few
     where
       both : record { base = m.timeline.base; history = m.timeline.history ++ event ∷ []; begun = timeline.begun } ≡ timeline
       both = λ i. record { base = sym base_is i; history = sym history_is i; begun = timeline.begun }
@@ -236,8 +315,13 @@ module _ (m : Core) (good : IsWithinLimits m) where
 -- ---- calls
 
 module _ (m : Core) (good : IsWithinLimits m) where
-  begin_within : IsWithinLimits (with_move m move.begin)
-  begin_within = same_history m good (moved m.timeline move.begin) refl refl
+  begin_within : refusal m begin ≡ None → IsWithinLimits (with_move m move.begin)
+  begin_within none =
+      let first = passes (nat_le most_transactions (length (live m))) (replies.too_many most_transactions) _ none in
+      let second = or_parts (is_spent m) (nat_le greatest_number (length m.timeline.begun)) (passes _ replies.spent None first.1).0 in
+      same_history m good (moved m.timeline move.begin) refl refl
+      (one_begins m.timeline.begun (begins (length m.timeline.begun) (number_of m)) good.transactions
+      (below most_transactions (length (live m)) first.0) (below greatest_number (length m.timeline.begun) second.1))
 
   -- of a transaction that is there
   at_transaction : (order : ℕ) (transaction : Transaction) (later : Transaction → Timeline) (log : LogState) → transaction_of m.timeline order ≡ Some transaction
@@ -248,20 +332,26 @@ module _ (m : Core) (good : IsWithinLimits m) where
 
   write_in_within : (order : ℕ) (transaction : Transaction) (write : Write) → transaction_of m.timeline order ≡ Some transaction
       → IsWithinLimits (with_move m (move.write_in order write))
-  write_in_within order transaction write is = at_transaction order transaction _ m.log is (same_history m good _ refl refl)
+  write_in_within order transaction write is = at_transaction order transaction _ m.log is
+      (same_history m good _ refl refl (one_other m.timeline.begun order transaction (staged transaction write) is (λ e. e) good.transactions))
 
   abort_within : (order : ℕ) (transaction : Transaction) → transaction_of m.timeline order ≡ Some transaction → IsWithinLimits (with_move m (move.abort order))
-  abort_within order transaction is = at_transaction order transaction _ m.log is (same_history m good _ refl refl)
+  abort_within order transaction is =
+      at_transaction order transaction _ m.log is
+      (same_history m good _ refl refl (one_other m.timeline.begun order transaction (ended transaction aborted) is (λ e. absurd cc) good.transactions))
 
-  committing_within : (order : ℕ) (transaction : Transaction) (writes : List Write) → commit_refusal m writes ≡ None
+  committing_within : (order : ℕ) (transaction : Transaction) (writes : List Write) → transaction_of m.timeline order ≡ Some transaction → commit_refusal m writes ≡ None
       → IsWithinLimits (record m { timeline = committing m.timeline order transaction writes; log = log_with m writes })
-  committing_within order transaction [] none = same_history m good _ refl refl
-  committing_within order transaction (write ∷ writes) none =
+  committing_within order transaction [] is none =
+      same_history m good _ refl refl
+      (one_other m.timeline.begun order transaction (ended transaction (committed transaction.snapshot)) is (λ e. absurd cc) good.transactions)
+  committing_within order transaction (write ∷ writes) is none =
       let first = passes m.is_broken replies.broken _ none in
       let second = passes (is_spent m) replies.spent _ first.1 in
       one_more m good _ (log_with m (write ∷ writes)) (commits (normal_form transaction.writes)) refl refl
       (commit_fits m.sizes m.timeline.base m.timeline.history good.history (normal_form transaction.writes) second.0)
       (logged_fits m (number_of m + 1) (normal_form (write ∷ writes)) good.log second.1)
+      (one_other m.timeline.begun order transaction (ended transaction (committed (number_of m + 1))) is (λ e. absurd cc) good.transactions)
 
   outside_within : (change : Change) (store : Store) → outside_refusal m change store ≡ None → IsWithinLimits (committing_write m (write_to store change))
   outside_within change store none =
@@ -272,44 +362,32 @@ module _ (m : Core) (good : IsWithinLimits m) where
       let room : room_refusal m (charge_of (normal_form writes)) ≡ None = size_passes m (charge_of (normal_form writes)) _ third.1 in
       one_more m good _ (logged m.log (number_of m + 1) (normal_form writes)) (commits (normal_form writes)) refl refl
       (commit_fits m.sizes m.timeline.base m.timeline.history good.history (normal_form writes) third.0)
-      (logged_fits m (number_of m + 1) (normal_form writes) good.log room)
+      (logged_fits m (number_of m + 1) (normal_form writes) good.log room) good.transactions
 
   -- ---- jobs
 
-  with_jobs : (jobs : List Job) (picked : ℕ) → length jobs ≤ 64 → IsWithinLimits (record m { jobs = jobs; picked = picked })
-  with_jobs jobs picked few = record {
+  with_jobs : (jobs : List Job) (picked : ℕ) → JobsFit jobs picked → IsWithinLimits (record m { jobs = jobs; picked = picked })
+  with_jobs jobs picked fits = record {
     history = good.history;
     log = good.log;
     manifest = good.manifest;
     slots = good.slots;
     since_base = good.since_base;
     until_now = good.until_now;
-    jobs = few;
+    transactions = good.transactions;
+    jobs = fits;
     cursors = good.cursors;
     turn = good.turn;
   }
 
   picked_within : (work : Work) → nat_le 64 (length m.jobs) ≡ false → IsWithinLimits (with_picked m work)
-  picked_within work room =
-      let few : length m.jobs < 64 = below 64 (length m.jobs) room in
-      let job : Job = record { id = m.picked; work = work; state = job_states.picked; sets = [] } in
-      let more = length-append m.jobs (job ∷ []) in
-      with_jobs (with_picked m work).jobs (m.picked + 1) (omega (arith, few, more))
+  picked_within work room = with_jobs (with_picked m work).jobs (m.picked + 1) (picked_fits m.jobs m.picked work good.jobs (below 64 (length m.jobs) room))
 
   without_within : (id : ℕ) → IsWithinLimits (record m { jobs = without_job m.jobs id })
-  without_within id =
-      let few : length m.jobs ≤ 64 = good.jobs in
-      let less : length (without_job m.jobs id) ≤ length m.jobs = fewer (λ (job : Job). not (job.id == id)) m.jobs in
-      with_jobs (without_job m.jobs id) m.picked (omega (arith, few, less))
-
-  state_few : (id : ℕ) (state : JobState) (new : List NewSet) → length (with_state m.jobs id state new) ≤ 64
-  state_few id state new =
-      let few : length m.jobs ≤ 64 = good.jobs in
-      let same_length : length (with_state m.jobs id state new) ≡ length m.jobs = length-map m.jobs _ in
-      omega (arith, few, same_length)
+  without_within id = with_jobs (without_job m.jobs id) m.picked (without_fits m.jobs m.picked id good.jobs)
 
   building_within : (job : Job) → IsWithinLimits (building m job)
-  building_within job = with_jobs (building m job).jobs m.picked (state_few job.id _ _)
+  building_within job = with_jobs (building m job).jobs m.picked (led_fits m.jobs m.picked job.id job_states.built _ good.jobs)
 
   picking_within : (wish : JobWish) → pick_refusal m wish ≡ None → IsWithinLimits (picking m wish)
   picking_within ingest none =
@@ -332,6 +410,7 @@ module _ (m : Core) (good : IsWithinLimits m) where
     slots = good.slots;
     since_base = good.since_base;
     until_now = good.until_now;
+    transactions = good.transactions;
     jobs = good.jobs;
     cursors = few;
     turn = good.turn;
@@ -357,6 +436,7 @@ module _ (m : Core) (good : IsWithinLimits m) where
     slots = good.slots;
     since_base = good.since_base;
     until_now = good.until_now;
+    transactions = good.transactions;
     jobs = good.jobs;
     cursors = good.cursors;
     turn = fits;
@@ -382,6 +462,7 @@ module _ (m : Core) (good : IsWithinLimits m) where
     slots = good.slots;
     since_base = good.since_base;
     until_now = good.until_now;
+    transactions = good.transactions;
     jobs = good.jobs;
     cursors = good.cursors;
     turn = good.turn;
@@ -402,7 +483,8 @@ module _ (m : Core) (good : IsWithinLimits m) where
         slots = omega (arith, small, before);
         since_base = good.since_base;
         until_now = good.until_now;
-        jobs = state_few job.id _ job.sets;
+        transactions = good.transactions;
+        jobs = led_fits m.jobs m.picked job.id job_states.installing job.sets good.jobs;
         cursors = good.cursors;
         turn = good.turn;
       }
@@ -440,7 +522,7 @@ module _ (m : Core) (good : IsWithinLimits m) where
       let sixth = not_busy m.turn _ fifth.1 in
       let there : IsWithinLimits (with_move m (move.create name mode prefix)) =
       one_more m good (moved m.timeline (move.create name mode prefix)) m.log (creates name mode prefix) refl refl
-      (creation_fits m.sizes m.timeline.base m.timeline.history good.history name mode prefix fifth.0 fourth.0) good.log in
+      (creation_fits m.sizes m.timeline.base m.timeline.history good.history name mode prefix fifth.0 fourth.0) good.log good.transactions in
       let entry : ManifestEntry = creation_entry m name mode prefix in
       with_turn_within (with_move m (move.create name mode prefix)) there _ m.is_broken
       (up_to_now (with_move m (move.create name mode prefix)) there (enters (entered m entry)) (entered_fits m entry good.manifest sixth.1))
@@ -455,7 +537,7 @@ module _ (m : Core) (good : IsWithinLimits m) where
       let sixth = not_busy m.turn _ fifth.1 in
       let there : IsWithinLimits (with_move m (move.remove store.id)) =
       one_more m good (moved m.timeline (move.remove store.id)) m.log (drops store.id) refl refl
-      (drop_fits m.sizes m.timeline.base m.timeline.history good.history store.id fifth.0) good.log in
+      (drop_fits m.sizes m.timeline.base m.timeline.history good.history store.id fifth.0) good.log good.transactions in
       let entry : ManifestEntry = drop_entry m store in
       with_turn_within (with_move m (move.remove store.id)) there _ m.is_broken
       (up_to_now (with_move m (move.remove store.id)) there (removes store.id (entered m entry)) (entered_fits m entry good.manifest sixth.1))) none
@@ -482,6 +564,7 @@ module _ (m : Core) (good : IsWithinLimits m) where
         slots = good.slots;
         since_base = omega (arith, before, since);
         until_now = until;
+        transactions = good.transactions;
         jobs = good.jobs;
         cursors = good.cursors;
         turn = tt;
@@ -501,6 +584,7 @@ module _ (m : Core) (good : IsWithinLimits m) where
         slots = omega (arith, used);
         since_base = there.since_base;
         until_now = there.until_now;
+        transactions = there.transactions;
         jobs = there.jobs;
         cursors = there.cursors;
         turn = tt;
@@ -514,6 +598,7 @@ module _ (m : Core) (good : IsWithinLimits m) where
         slots = omega (arith, used);
         since_base = good.since_base;
         until_now = good.until_now;
+        transactions = good.transactions;
         jobs = (without_within m good id).jobs;
         cursors = good.cursors;
         turn = tt;
@@ -566,7 +651,7 @@ module _ (m : Core) (good : IsWithinLimits m) where
   refused_within call = good
 
   pub done_within : (call : Call) → refusal m call ≡ None → IsWithinLimits (done m call)
-  done_within begin none = begin_within m good
+  done_within begin none = begin_within m good none
   done_within (write_by outside name change) none =
       found IsWithinLimits (store_named (now m) name) replies.no_store (outside_refusal m change) m _
       (λ store is passed. outside_within m good change store passed) none
@@ -580,7 +665,7 @@ module _ (m : Core) (good : IsWithinLimits m) where
       found_transaction IsWithinLimits m order (λ transaction. commit_refusal m transaction.writes) _
       (λ transaction is passed.
       at_transaction m good order transaction (λ t. committing m.timeline order t t.writes) (log_with m transaction.writes) is.at
-      (committing_within m good order transaction transaction.writes passed)) none
+      (committing_within m good order transaction transaction.writes is.at passed)) none
   done_within (abort order) none =
       let there = is_there m order (λ transaction. None) none in
       abort_within m good order there.0 there.1.at
