@@ -39,6 +39,8 @@ pub mod CoreAnswers
 mod MeaningCases
 pub mod CoreLimits
 pub mod CoreRecords
+pub mod ManifestRecords
+pub mod CoreKeepsRecords
 pub mod TurnLemmas
 pub mod ScriptGoes
 pub mod JobLemmas

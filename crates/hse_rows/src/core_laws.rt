@@ -5,7 +5,8 @@ ghost use Rattle.hse_rows.specs.CoreLaws.{OthersKeepTimelines, OthersKeepCursors
 ghost use Rattle.hse_rows.specs.CoreLaws.{LivesStand, StepsKeepStanding};
 ghost use Rattle.hse_rows.specs.CoreLaws.{AnswersLeadOneWay, RefusalsChangeNothing};
 ghost use Rattle.hse_rows.specs.CoreLaws.{CallsAreAnswered, CallsHaveOneAnswer};
-ghost use Rattle.hse_rows.specs.CoreLaws.{StepsKeepLimits, StepsRecordCommits};
+ghost use Rattle.hse_rows.specs.CoreLaws.{StepsKeepLimits, LivesBeginRecorded};
+ghost use Rattle.hse_rows.specs.CoreLaws.{StepsKeepRecords, RunsAreRecorded};
 
 /// Snapshot isolation. In every run no two transactions that each began before the other's commit
 /// both committed overlapping writes, and a commit is never canceled.
@@ -50,8 +51,11 @@ pub fn calls_keep_limits()
     ensures { StepsKeepLimits }
 {}
 
-/// Until a reopening, each event but creations and drops stands in the log, or its number is up to
-/// the horizon.
-pub fn calls_record_commits()
-    ensures { StepsRecordCommits }
+/// In every run the log has the commits of the life, but for those up to the horizon. While no device
+/// call failed, the manifest has the numbers of its creations and drops above the horizon, but for one
+/// whose turn is out.
+pub fn calls_are_recorded()
+    ensures lives { LivesBeginRecorded }
+    ensures steps { StepsKeepRecords }
+    ensures runs { RunsAreRecorded }
 {}
