@@ -48,3 +48,5 @@ pub mod ScriptRuns
 pub mod LineCalls
 pub mod LineSteps
 pub mod LineAnswers
+pub mod LineKeeps
+pub mod ScriptSound

@@ -37,8 +37,8 @@ pub use prefix::{Prefix, PrefixFault};
 pub use row::{Row, RowRef};
 pub use row_set::{RowSet, Shared};
 pub use script_laws::{
-    lines_are_calls, lines_have_one_answer, lines_lead_one_way, scripts_are_isolated,
-    turns_are_one_step,
+    lines_are_calls, lines_have_one_answer, lines_lead_one_way, other_lines_keep_timelines,
+    scripts_are_isolated, scripts_are_sound, turns_are_one_step,
 };
 pub use store::{Mode, StoreId};
 pub use value::{Value, ValueFault};

@@ -3,10 +3,12 @@ ghost use Rattle.hse_rows.specs.ScriptLaws.{SyncsAreOneStep, CreationsAreOneStep
 ghost use Rattle.hse_rows.specs.ScriptLaws.{LinesAreCalls, LinesAreTheirPhases, LinesLeadOneWay};
 ghost use Rattle.hse_rows.specs.ScriptLaws.{WantOfMemoryChangesNothing, RefusalsChangeNothing};
 ghost use Rattle.hse_rows.specs.ScriptLaws.{LinesHaveOneAnswer, LinesAreAnswered};
+ghost use Rattle.hse_rows.specs.ScriptLaws.{LinesKeepTimelines, LinesKeepNames};
+ghost use Rattle.hse_rows.specs.ScriptLaws.{LinesKeepSound, ScriptsAreSound};
 ghost use Rattle.hse_rows.specs.ScriptLaws.{LinesKeepIsolated, ScriptsAreIsolated};
 
-/// The phases of a sync, a creation and a drop in a row do what one step would, and likewise where a
-/// device call fails.
+/// The phases of a sync, a creation and a drop in a row do and answer what one step would, and do
+/// likewise where a device call fails.
 pub fn turns_are_one_step()
     ensures syncs { SyncsAreOneStep }
     ensures creations { CreationsAreOneStep }
@@ -33,6 +35,20 @@ pub fn lines_lead_one_way()
 pub fn lines_have_one_answer()
     ensures answered { LinesAreAnswered }
     ensures one { LinesHaveOneAnswer }
+{}
+
+/// The phases of a sync, a freeze and an install, picks and builds change no state, no transaction,
+/// no cursor with its list and position, and no name of a transaction or a cursor.
+pub fn other_lines_keep_timelines()
+    ensures timelines { LinesKeepTimelines }
+    ensures names { LinesKeepNames }
+{}
+
+/// In every script the core keeps within the limits, with what is safe between the base and the last
+/// number, log and manifest have what happened in the life, and the timeline stands.
+pub fn scripts_are_sound()
+    ensures lines { LinesKeepSound }
+    ensures scripts { ScriptsAreSound }
 {}
 
 /// Snapshot isolation. In every script no two transactions that each began before the other's commit
