@@ -5,7 +5,7 @@ use Rattle.hse_rows.specs.State.{State}
 use Rattle.hse_rows.specs.History.{Event, folded, last_number}
 use Rattle.hse_rows.specs.Transaction.{Transaction, is_active}
 use Rattle.hse_rows.specs.Sizes.{Sizes}
-use Rattle.hse_rows.specs.Log.{LogState, most_frozen, charge_of_active, room_of}
+use Rattle.hse_rows.specs.Log.{LogState, IsWithinLayers, charge_of_active, room_of}
 use Rattle.hse_rows.specs.ManifestRoom.{ManifestState, greatest_sequence}
 use Rattle.hse_rows.specs.Job.{Job}
 use Rattle.hse_rows.specs.Turn.{Plan, settles, enters, removes, installs, Turn, home, taken, ran}
@@ -18,7 +18,7 @@ pub record HistoryFits (sizes : Sizes) (base : State) (events : List Event) : Ty
 pub record LogFits (sizes : Sizes) (log : LogState) : Type 0 where
   -- the commits of the active layer have room in their segment
   pub room : charge_of_active log ≤ room_of sizes.segment_size
-  pub layers : length log.frozen ≤ most_frozen
+  pub layers : IsWithinLayers log
   -- the active segment's sequence
   pub segments : log.first_segment + length log.frozen ≤ greatest_sequence
 

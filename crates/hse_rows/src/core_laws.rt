@@ -44,16 +44,18 @@ pub fn calls_have_one_answer()
     ensures one { CallsHaveOneAnswer }
 {}
 
-/// The log's commits have room in their segment and at most three layers are frozen, the manifest's
-/// batches have room in their half, no more slots are used than there are, numbers and counts are
-/// within their limits, and what is safe is between the base and the last number.
+/// Each call keeps within the limits, where a reopening loads what is within them: the log's commits
+/// have room in their segment and at most three layers are frozen, the manifest's batches have room in
+/// their half, no more slots are used than there are, numbers, sequences and counts of stores, live
+/// transactions, begins, jobs and cursors are within their limits, the id of each job is less than the
+/// count of picks, and what is safe is between the base and the last number.
 pub fn calls_keep_limits()
     ensures { StepsKeepLimits }
 {}
 
-/// In every run the log has the commits of the life, but for those up to the horizon. While no device
-/// call failed, the manifest has the numbers of its creations and drops above the horizon, but for one
-/// whose turn is out.
+/// In every run each commit since the life began stands in the log, with those that the device stored
+/// then, or its number is up to the horizon. While no device call failed, the manifest has the numbers
+/// of the creations and drops above the horizon, but for one whose turn is out. A life begins so.
 pub fn calls_are_recorded()
     ensures lives { LivesBeginRecorded }
     ensures steps { StepsKeepRecords }
