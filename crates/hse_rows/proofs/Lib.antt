@@ -37,6 +37,8 @@ pub mod RowCases
 pub mod PhaseCases
 pub mod CoreAnswers
 mod MeaningCases
+pub mod FitLemmas
+pub mod CoreFits
 pub mod CoreLimits
 pub mod CoreRecords
 pub mod ManifestRecords
