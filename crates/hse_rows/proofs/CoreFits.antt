@@ -1,42 +1,28 @@
 -- A core within the limits with one part changed.
-use Rattle.std.proofs.Common.{◌≡◌, ℕ, zero, suc, ◌+◌, ◌-◌, ◌^◌, ◌<◌, ◌≤◌, ◌==◌, nat_lt, nat_le, Bool, true, false, not, cond, ◌&&◌, ◌||◌, List, [], ◌∷◌, ◌++◌, length, Option, Some, None, is_some, refl, sym, ◌∙◌, ap, subst, arith, zero-add, length-append}
-use Rattle.std.specs.Prelude.{set}
-use Rattle.std.specs.List.{slice_get, filter}
-use Rattle.std.proofs.lemmas.List.{length-map, length-set}
-use Rattle.std.proofs.lemmas.List.Sums.{sum_by-append}
-use Rattle.std.proofs.lemmas.Bool.Decides.{nat_tests}
-use Rattle.hse_rows.specs.declared.store.Mode.{Mode}
+use Rattle.std.proofs.Common.{◌≡◌, ℕ, ◌+◌, ◌-◌, ◌<◌, ◌≤◌, nat_lt, nat_le, Bool, false, List, [], ◌∷◌, ◌++◌, length, Option, Some, None, refl, sym, subst, arith}
 use Rattle.hse_rows.specs.declared.change.Change.{Change}
 use Rattle.hse_rows.specs.declared.write.Write.{Write}
 use Rattle.hse_rows.specs.Charge.{charge_of}
 use Rattle.hse_rows.specs.NormalForm.{normal_form}
 use Rattle.hse_rows.specs.State.{Store, State, store_named}
-use Rattle.hse_rows.specs.Holding.{written_all, applied_all-stores}
-use Rattle.hse_rows.specs.History.{Event, commits, creates, drops, new_store, happened, folded, last_number}
-use Rattle.hse_rows.specs.Folding.{folded_push}
-use Rattle.hse_rows.specs.Transaction.{Transaction, committed, aborted, is_active, begins, staged, ended}
+use Rattle.hse_rows.specs.History.{Event, commits, last_number}
+use Rattle.hse_rows.specs.Transaction.{Transaction, committed, aborted, begins, staged, ended}
 use Rattle.hse_rows.specs.Moves as move
-use Rattle.hse_rows.specs.Timeline.{Timeline, transaction_of, snapshot_of, for_some, committing, moved}
-use Rattle.hse_rows.specs.Log.{LogState, Frozen, Numbered, charge_of_active, room_of, room_left, logged}
-use Rattle.hse_rows.specs.ManifestRoom.{ManifestState, half_room, fits, cannot_roll, gained, greatest_sequence}
-use Rattle.hse_rows.specs.Sizes.{Sizes}
+use Rattle.hse_rows.specs.Timeline.{Timeline, transaction_of, for_some, committing, moved}
+use Rattle.hse_rows.specs.Log.{LogState, logged}
+use Rattle.hse_rows.specs.ManifestRoom.{fits}
 use Rattle.hse_rows.specs.Job.{JobWish, ingest, of_run, Work, ingesting, on_run, Job, JobState, job_of, needed_blocks, live_ingest, claimer, first_on, is_picked, is_built}
 use Rattle.hse_rows.specs.Job as job_states
-use Rattle.hse_rows.specs.Layout.{NewSet}
-use Rattle.hse_rows.specs.Turn.{TurnWish, sync, freeze, install, create, drop, Plan, settles, enters, removes, installs, TakenTurn, Turn, home, taken, ran}
-use Rattle.hse_rows.specs.Turn as turns
+use Rattle.hse_rows.specs.Turn.{Plan, Turn}
 use Rattle.hse_rows.specs.Replies as replies
 use Rattle.hse_rows.specs.Replies.{Refusal, Answer}
-use Rattle.hse_rows.specs.Calls.{outside, inside, Call, begin, write_by, get, commit, abort, list_stores, tree, info, take_place, give_place, pick, build, drop_job, next_job, take, write_turn, end_turn, reopen}
-use Rattle.hse_rows.specs.Core.{Core, life, live, now, number_of, oldest, most_transactions, greatest_number, free_slots, write_to, with_move, most_jobs, most_cursors, longest_prefix}
-use Rattle.hse_rows.specs.ManifestEntry.{ManifestEntry, whole_need, has_no_room, entered, creation_entry, drop_entry, install_entry}
-use Rattle.hse_rows.specs.CoreRefusal.{refusal, refuse, is_tx, is_spent, room_refusal, outside_refusal, inside_refusal, commit_refusal, pick_refusal, is_log_busy, entry_refusal, install_refusal, drop_refusal, take_refusal, first_in_store}
-use Rattle.hse_rows.specs.CoreDone.{done, refused_to, failing, without_job, with_state, with_picked, picking, building, log_with, committing_write, frozen_log, with_installing, taking, without_oldest, oldest_gone, log_after, planned, ending, ending_failed, given_up, run_of}
+use Rattle.hse_rows.specs.Calls.{begin, take_place, give_place}
+use Rattle.hse_rows.specs.Core.{Core, live, now, number_of, most_transactions, greatest_number, free_slots, write_to, with_move, most_jobs, most_cursors}
+use Rattle.hse_rows.specs.ManifestEntry.{entered, install_entry}
+use Rattle.hse_rows.specs.CoreRefusal.{refusal, is_tx, is_spent, room_refusal, outside_refusal, commit_refusal, pick_refusal, install_refusal}
+use Rattle.hse_rows.specs.CoreDone.{done, without_job, with_picked, picking, building, log_with, committing_write, with_installing, run_of}
 use Rattle.hse_rows.specs.Limits.{HistoryFits, LogFits, ManifestFits, TransactionsFit, JobsFit, PlanFits, TurnFits, IsWithinLimits}
-use Rattle.hse_rows.specs.CoreStep.{Found, loads, breaks_off, has_version, Reopens, Step}
-use Rattle.hse_rows.specs.CoreLaws.{LoadsWithinLimits}
-use Rattle.hse_rows.proofs.JobLemmas.{joined_below, further_below, led_below, fewer_below}
-use Rattle.hse_rows.proofs.PassLemmas.{passes, change_passes, size_passes, not_busy, not_busy_with, not_held, found, found_transaction, found_job, is_there}
+use Rattle.hse_rows.proofs.PassLemmas.{passes, change_passes, size_passes, not_busy, found}
 use Rattle.hse_rows.proofs.FitLemmas.{at_most, below, commit_fits, entered_fits, later_turn, led_fits, logged_fits, one_begins, one_other, or_parts, picked_fits, pushed_number, without_fits}
 
 -- ---- a core with another history and another log

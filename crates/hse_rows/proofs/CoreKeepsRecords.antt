@@ -1,13 +1,12 @@
 -- Log and manifest have what happened, in every run.
 use Rattle.std.specs.List.{AllByRecursion}
-use Rattle.std.proofs.Common.{◌≡◌, ℕ, ◌+◌, ◌≤◌, List, [], ◌∷◌, ◌++◌, Option, Some, None, refl, sym, ◌∙◌, ap, subst, arith}
+use Rattle.std.proofs.Common.{◌≡◌, ℕ, ◌+◌, List, [], ◌∷◌, Option, Some, None, refl, sym, ◌∙◌, ap, subst, arith}
 use Rattle.hse_rows.specs.declared.write.Write.{Write}
-use Rattle.hse_rows.specs.State.{State, store_named}
+use Rattle.hse_rows.specs.State.{store_named}
 use Rattle.hse_rows.specs.Transaction.{Transaction}
 use Rattle.hse_rows.specs.Moves.{Move}
 use Rattle.hse_rows.specs.Moves as move
 use Rattle.hse_rows.specs.Timeline.{Timeline, transaction_of, snapshot_of, for_some, committing, moved}
-use Rattle.hse_rows.specs.Log.{Numbered}
 use Rattle.hse_rows.specs.Job.{job_of}
 use Rattle.hse_rows.specs.Turn.{TurnWish, sync, freeze, install, create, drop}
 use Rattle.hse_rows.specs.Replies as replies

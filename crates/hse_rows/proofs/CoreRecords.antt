@@ -1,5 +1,5 @@
 -- The log keeps the commits.
-use Rattle.std.proofs.Common.{◌≡◌, ◌≢◌, ℕ, ◌+◌, ◌≤◌, ◌==◌, true, false, cond, List, [], ◌∷◌, ◌++◌, length, Option, Some, None, refl, sym, ◌∙◌, ap, subst, arith, append_assoc, length-append}
+use Rattle.std.proofs.Common.{◌≡◌, ℕ, ◌+◌, ◌≤◌, ◌==◌, true, false, cond, List, [], ◌∷◌, ◌++◌, length, Option, Some, None, refl, sym, ◌∙◌, ap, subst, arith, append_assoc, length-append}
 use Rattle.hse_rows.specs.declared.write.Write.{Write}
 use Rattle.hse_rows.specs.NormalForm.{normal_form}
 use Rattle.hse_rows.specs.State.{State, store_named}
@@ -10,12 +10,9 @@ use Rattle.hse_rows.specs.Timeline.{Timeline, transaction_of, snapshot_of, for_s
 use Rattle.hse_rows.specs.Log.{LogState, Frozen, Numbered, logged}
 use Rattle.hse_rows.specs.Job.{JobWish, ingest, of_run, Work, ingesting, on_run, job_of}
 use Rattle.hse_rows.specs.Turn.{TurnWish, sync, freeze, install, create, drop, Plan, settles, enters, removes, installs, Turn, home, taken, ran}
-use Rattle.hse_rows.specs.Replies as replies
-use Rattle.hse_rows.specs.Replies.{Answer}
 use Rattle.hse_rows.specs.Calls.{outside, inside, Call, begin, write_by, get, commit, abort, list_stores, tree, info, take_place, give_place, pick, build, drop_job, next_job, take, write_turn, end_turn, reopen}
 use Rattle.hse_rows.specs.Core.{Core, now, number_of, oldest, write_to, with_move}
-use Rattle.hse_rows.specs.CoreDone.{done, refused_to, failing, log_with, frozen_log, taking, without_oldest, oldest_gone, log_after, picking, building, planned, ending, ending_failed, given_up}
-use Rattle.hse_rows.specs.CoreStep.{Found, Step}
+use Rattle.hse_rows.specs.CoreDone.{done, refused_to, log_with, frozen_log, taking, without_oldest, oldest_gone, log_after, picking, building, planned, ending, ending_failed, given_up}
 use Rattle.hse_rows.specs.Recorded.{commits_in, CommitsUpTo, AreLayers, frozen_commits, commits_of, Records}
 use Rattle.hse_rows.proofs.RecordLemmas.{commits_push}
 

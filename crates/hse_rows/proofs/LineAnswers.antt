@@ -1,5 +1,5 @@
 -- Each line has one answer but for want of memory and device faults, and an answer leads one way.
-use Rattle.std.proofs.Common.{◌≡◌, ◌≢◌, ◌⊎◌, inl, inr, ℕ, Bool, true, false, cond, List, [], ◌∷◌, Option, Some, None, is_some, refl, sym, ◌∙◌, ap, subst}
+use Rattle.std.proofs.Common.{◌≡◌, ◌≢◌, ◌⊎◌, inl, inr, ℕ, Bool, true, false, cond, List, Option, Some, None, is_some, refl, sym, ◌∙◌, ap}
 use Rattle.std.specs.FinMap as fin_map
 use Rattle.hse_rows.specs.State.{State, store_named}
 use Rattle.hse_rows.specs.Transaction.{read_of}
@@ -17,8 +17,8 @@ use Rattle.hse_rows.specs.CoreReply.{value_in, found_value, next_reply, end_repl
 use Rattle.hse_rows.specs.CoreReply as replied
 use Rattle.hse_rows.specs.Schedule.{next_wish}
 use Rattle.hse_rows.specs.CoreStep.{Found, loads, breaks_off, has_version}
-use Rattle.hse_rows.specs.ScriptLines.{Who, nobody, someone, Line, begin, write_by, get, commit, abort, list_stores, tree, info, open_cursor, seek, seek_range, read, update, close_cursor, pick, build, drop_job, next_job, take, take_install, write_turn, end_turn, turn, job, auto, reopen, silent, bad}
-use Rattle.hse_rows.specs.Script.{Script, begins_with, order_of, job_named, cursor_named}
+use Rattle.hse_rows.specs.ScriptLines.{nobody, someone, Line, begin, write_by, get, commit, tree, seek, seek_range, read, build, next_job, end_turn, turn, job, auto, reopen, silent}
+use Rattle.hse_rows.specs.Script.{Script, order_of, job_named, cursor_named}
 use Rattle.hse_rows.specs.ScriptNames.{told, answer_named}
 use Rattle.hse_rows.specs.ScriptRefusal.{refusal, asked, with_built}
 use Rattle.hse_rows.specs.ScriptDone.{reply, done, refused_to, once_picked, job_refused, answered, key_reply, pair_reply, turn_reply, job_reply}

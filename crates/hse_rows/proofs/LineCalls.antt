@@ -1,31 +1,29 @@
 -- A line is its calls, one after another.
-use Rattle.std.specs.List.{AllByRecursion}
-use Rattle.std.proofs.Common.{◌≡◌, ◌≢◌, inl, inr, ℕ, ◌+◌, Bool, true, false, not, cond, List, [], ◌∷◌, Option, Some, None, is_some, refl, sym, ◌∙◌, ap, subst}
-use Rattle.hse_rows.specs.State.{State, Store, store_named}
-use Rattle.hse_rows.specs.Transaction.{TransactionState, active, committed, aborted, Transaction, read_of}
+use Rattle.std.proofs.Common.{◌≡◌, ◌≢◌, ℕ, not, List, [], ◌∷◌, Option, Some, None, is_some, refl, sym, subst}
+use Rattle.hse_rows.specs.State.{State, store_named}
+use Rattle.hse_rows.specs.Transaction.{TransactionState, active, committed, aborted, read_of}
 use Rattle.hse_rows.specs.Timeline.{for_some, transaction_of}
 use Rattle.hse_rows.specs.Cursor.{Direction}
 use Rattle.hse_rows.specs.Job.{JobWish}
-use Rattle.hse_rows.specs.Turn.{TurnWish, install, Calls}
+use Rattle.hse_rows.specs.Turn.{install}
 use Rattle.hse_rows.specs.Replies as replies
 use Rattle.hse_rows.specs.Replies.{Refusal, Answer}
 use Rattle.hse_rows.specs.Calls.{inside, outside, Call}
 use Rattle.hse_rows.specs.Calls as call
-use Rattle.hse_rows.specs.Core.{Core, JobsAreNumbered, life, now}
+use Rattle.hse_rows.specs.Core.{JobsAreNumbered, now}
 use Rattle.hse_rows.specs.CoreRefusal as core
 use Rattle.hse_rows.specs.CoreDone as leads
 use Rattle.hse_rows.specs.Schedule.{next_wish}
-use Rattle.hse_rows.specs.CoreStep.{Found, loads, breaks_off, has_version}
+use Rattle.hse_rows.specs.CoreStep.{Found}
 use Rattle.hse_rows.specs.ScriptLines.{Who, nobody, someone, Line, begin, write_by, get, commit, abort, list_stores, tree, info, open_cursor, seek, seek_range, read, update, close_cursor, pick, build, drop_job, next_job, take, take_install, write_turn, end_turn, turn, job, auto, reopen, silent, bad}
-use Rattle.hse_rows.specs.Script.{Script, begins_with, order_of, job_named, cursor_named, is_begun}
-use Rattle.hse_rows.specs.ScriptNames.{told}
-use Rattle.hse_rows.specs.ScriptRefusal.{refusal, refuse, asked, with_built, with_read, unless_ended, edge_refusal, job_refusal, or_later}
-use Rattle.hse_rows.specs.ScriptDone.{done, refused_to, failing, opening_cursor, turned, turn_failed}
+use Rattle.hse_rows.specs.Script.{Script, order_of, job_named, cursor_named, is_begun}
+use Rattle.hse_rows.specs.ScriptRefusal.{refusal, refuse, asked, with_built, unless_ended, edge_refusal, job_refusal, or_later}
+use Rattle.hse_rows.specs.ScriptDone.{done, failing, opening_cursor, turned, turn_failed}
 use Rattle.hse_rows.specs.ScriptStep.{CallsForSome, MayFail}
 use Rattle.hse_rows.specs.ScriptCalls.{Leads, turn_calls, calls_of}
 use Rattle.hse_rows.proofs.CoreAnswers.{IsOther}
 use Rattle.hse_rows.proofs.ScriptGoes.{not_told, passed}
-use Rattle.hse_rows.proofs.ScriptRuns.{one, turn_led, turn_failed_led, built_first, refused_led, dropped_led}
+use Rattle.hse_rows.proofs.ScriptRuns.{one, turn_led, turn_failed_led, built_first}
 
 -- ---- lines
 

@@ -1,5 +1,5 @@
 -- What lines leave as it was.
-use Rattle.std.proofs.Common.{◌≡◌, inl, inr, ℕ, Bool, true, false, cond, List, Option, Some, None, is_some, refl, sym, ◌∙◌, ap}
+use Rattle.std.proofs.Common.{◌≡◌, inl, inr, ℕ, Bool, true, false, cond, List, Option, Some, None, is_some, refl, ◌∙◌, ap}
 use Rattle.hse_rows.specs.State.{store_named}
 use Rattle.hse_rows.specs.Transaction.{read_of}
 use Rattle.hse_rows.specs.Timeline.{transaction_of, for_some}
@@ -12,16 +12,15 @@ use Rattle.hse_rows.specs.Calls.{inside, outside}
 use Rattle.hse_rows.specs.Calls as call
 use Rattle.hse_rows.specs.Core.{Core, now}
 use Rattle.hse_rows.specs.CoreDone as leads
-use Rattle.hse_rows.specs.CoreLaws.{TakesEvent}
 use Rattle.hse_rows.specs.Schedule.{next_wish}
-use Rattle.hse_rows.specs.CoreStep.{Found, loads, breaks_off, has_version}
-use Rattle.hse_rows.specs.ScriptLines.{Who, nobody, someone, Line, begin, write_by, get, commit, abort, list_stores, tree, info, open_cursor, seek, seek_range, read, update, close_cursor, pick, build, drop_job, next_job, take, take_install, write_turn, end_turn, turn, job, auto, reopen, silent, bad}
+use Rattle.hse_rows.specs.CoreStep.{Found}
+use Rattle.hse_rows.specs.ScriptLines.{Who, nobody, someone, Line, begin, write_by, commit, abort, open_cursor, seek, seek_range, read, update, close_cursor, pick, build, drop_job, take, take_install, write_turn, end_turn, turn, job, auto, reopen, silent}
 use Rattle.hse_rows.specs.Script.{Script, order_of, job_named, cursor_named}
 use Rattle.hse_rows.specs.ScriptRefusal.{asked, with_built}
 use Rattle.hse_rows.specs.ScriptDone.{done, refused_to, failing, turned, turn_failed, ran, job_done, job_failed, once_picked, job_refused}
 use Rattle.hse_rows.specs.ScriptStep.{LacksMemory, Step}
 use Rattle.hse_rows.specs.ScriptLaws.{ChangesTimeline, ChangesNames}
-use Rattle.hse_rows.proofs.CoreGoes.{done_keeps, refused_keeps, failing_keeps}
+use Rattle.hse_rows.proofs.CoreGoes.{done_keeps, refused_keeps}
 
 -- ---- names and cursors
 

@@ -1,6 +1,6 @@
 -- Each step of a line leads the core on by calls.
 use Rattle.std.specs.List.{AllByRecursion}
-use Rattle.std.proofs.Common.{◌≡◌, ◌≢◌, inl, inr, ℕ, ◌+◌, Bool, true, false, cond, List, [], ◌∷◌, Option, Some, None, is_some, refl, sym, ◌∙◌, ap, subst}
+use Rattle.std.proofs.Common.{◌≡◌, ◌≢◌, inl, inr, ℕ, cond, List, [], ◌∷◌, Option, Some, None, is_some, refl, sym, ◌∙◌, ap, subst}
 use Rattle.hse_rows.specs.Timeline.{for_some}
 use Rattle.hse_rows.specs.Job.{JobWish}
 use Rattle.hse_rows.specs.Turn.{TurnWish, install}
@@ -13,10 +13,10 @@ use Rattle.hse_rows.specs.CoreRefusal as core
 use Rattle.hse_rows.specs.CoreDone as leads
 use Rattle.hse_rows.specs.Schedule.{next_wish}
 use Rattle.hse_rows.specs.CoreStep.{Found, loads, breaks_off, has_version}
-use Rattle.hse_rows.specs.ScriptLines.{Who, nobody, someone, Line, begin, write_by, get, commit, abort, list_stores, tree, info, open_cursor, seek, seek_range, read, update, close_cursor, pick, build, drop_job, next_job, take, take_install, write_turn, end_turn, turn, job, auto, reopen, silent, bad}
-use Rattle.hse_rows.specs.Script.{Script, begins_with, order_of, job_named}
+use Rattle.hse_rows.specs.ScriptLines.{nobody, someone, Line, begin, write_by, get, commit, abort, list_stores, tree, info, open_cursor, seek, seek_range, read, update, close_cursor, pick, build, drop_job, next_job, take, take_install, write_turn, end_turn, turn, job, auto, reopen, silent, bad}
+use Rattle.hse_rows.specs.Script.{Script, order_of, job_named}
 use Rattle.hse_rows.specs.ScriptNames.{told}
-use Rattle.hse_rows.specs.ScriptRefusal.{refusal, asked, with_built, job_refusal, or_later}
+use Rattle.hse_rows.specs.ScriptRefusal.{refusal, with_built, job_refusal, or_later}
 use Rattle.hse_rows.specs.ScriptDone.{done, refused_to, failing, once_picked, job_refused}
 use Rattle.hse_rows.specs.ScriptStep.{LacksMemory, Reopens, Step}
 use Rattle.hse_rows.specs.ScriptCalls.{Leads, turn_calls, job_calls, calls_of}

@@ -1,9 +1,9 @@
 -- The manifest keeps the numbers of creations and drops.
-use Rattle.std.specs.List.{AllByRecursion, filter}
+use Rattle.std.specs.List.{AllByRecursion}
 use Rattle.std.proofs.Common.{◌≡◌, ℕ, ◌+◌, ◌<◌, ◌≤◌, ◌==◌, nat_lt, Bool, true, false, cond, List, [], ◌∷◌, ◌++◌, length, Option, Some, None, is_some, refl, sym, ◌∙◌, ap, subst, arith, append_assoc, length-append}
 use Rattle.std.proofs.lemmas.Bool.Decides.{nat_tests}
 use Rattle.hse_rows.specs.declared.write.Write.{Write}
-use Rattle.hse_rows.specs.State.{State, store_named}
+use Rattle.hse_rows.specs.State.{store_named}
 use Rattle.hse_rows.specs.History.{Event, commits, creates, drops, last_number}
 use Rattle.hse_rows.specs.Transaction.{Transaction}
 use Rattle.hse_rows.specs.NormalForm.{normal_form}
@@ -18,10 +18,10 @@ use Rattle.hse_rows.specs.Turn.{TurnWish, sync, freeze, install, create, drop, P
 use Rattle.hse_rows.specs.Turn as turns
 use Rattle.hse_rows.specs.Replies as replies
 use Rattle.hse_rows.specs.Calls.{outside, inside, Call, begin, write_by, get, commit, abort, list_stores, tree, info, take_place, give_place, pick, build, drop_job, next_job, take, write_turn, end_turn, reopen}
-use Rattle.hse_rows.specs.Core.{Core, Stored, now, number_of, oldest, write_to, with_move}
+use Rattle.hse_rows.specs.Core.{Core, now, number_of, oldest, write_to, with_move}
 use Rattle.hse_rows.specs.CoreRefusal.{refusal, is_spent, first_in_store, entry_refusal, take_refusal, install_refusal, drop_refusal, unless_run_well}
 use Rattle.hse_rows.specs.CoreDone.{done, refused_to, failing, committing_write, with_turn_up_to, with_installing, log_with, frozen_log, taking, oldest_gone, picking, building, planned, ending, ending_failed, given_up}
-use Rattle.hse_rows.specs.Recorded.{taken_in, AreLayers, above, due_by, due, PlanRecords, TurnRecords, BreaksBy, Records}
+use Rattle.hse_rows.specs.Recorded.{taken_in, AreLayers, above, due_by, due, PlanRecords, TurnRecords, BreaksBy}
 use Rattle.hse_rows.proofs.PassLemmas.{passes, not_busy, not_held, not_busy_with, found, found_job}
 use Rattle.hse_rows.proofs.RecordLemmas.{taken_push}
 use Rattle.hse_rows.proofs.CoreRecords.{none_added, leaves}

@@ -1,35 +1,25 @@
 -- A line is a run of calls of the core.
-use Rattle.std.proofs.Common.{◌≡◌, ◌≢◌, inl, inr, ℕ, ◌+◌, Bool, true, false, not, cond, List, [], ◌∷◌, Option, Some, None, is_some, refl, sym, ◌∙◌, ap, subst}
-use Rattle.hse_rows.specs.State.{State, store_named}
-use Rattle.hse_rows.specs.Transaction.{TransactionState, active, committed, aborted, Transaction, read_of}
-use Rattle.hse_rows.specs.Timeline.{for_some, transaction_of}
-use Rattle.hse_rows.specs.Cursor.{Direction}
-use Rattle.hse_rows.specs.Job.{JobWish, Work, is_built}
+use Rattle.std.proofs.Common.{◌≡◌, ℕ, ◌+◌, true, false, List, [], ◌∷◌, Some, None, refl, sym, ◌∙◌, ap, subst}
+use Rattle.hse_rows.specs.State.{store_named}
+use Rattle.hse_rows.specs.Job.{JobWish, is_built}
 use Rattle.hse_rows.specs.Turn.{TurnWish, sync, freeze, install, create, drop, TakenTurn, Turn, taken, written, Calls}
 use Rattle.hse_rows.specs.Replies as replies
 use Rattle.hse_rows.specs.Replies.{Refusal, Answer}
 use Rattle.hse_rows.specs.Calls.{inside, outside, Call}
 use Rattle.hse_rows.specs.Calls as call
-use Rattle.hse_rows.specs.Core.{Core, JobsAreNumbered, life, now}
+use Rattle.hse_rows.specs.Core.{Core, JobsAreNumbered, now}
 use Rattle.hse_rows.specs.CoreRefusal.{take_refusal, install_refusal, drop_refusal, unless_not_taken, unless_run_well}
 use Rattle.hse_rows.specs.CoreRefusal as core
 use Rattle.hse_rows.specs.CoreReply as replied
 use Rattle.hse_rows.specs.CoreDone.{taking, with_picked}
 use Rattle.hse_rows.specs.CoreDone as leads
-use Rattle.hse_rows.specs.Schedule.{next_wish}
-use Rattle.hse_rows.specs.CoreStep.{Found, loads, breaks_off, has_version}
-use Rattle.hse_rows.specs.CoreStep as core_step
-use Rattle.hse_rows.specs.ScriptLines.{Who, nobody, someone, Line, begin, write_by, get, commit, abort, list_stores, tree, info, open_cursor, seek, seek_range, read, update, close_cursor, pick, build, drop_job, next_job, take, take_install, write_turn, end_turn, turn, job, auto, reopen, silent, bad}
-use Rattle.hse_rows.specs.Script.{Script, begins_with, order_of, job_named, cursor_named, is_begun}
-use Rattle.hse_rows.specs.ScriptNames.{told}
-use Rattle.hse_rows.specs.ScriptRefusal.{refusal, refuse, asked, with_built, with_order, with_state, with_read, unless_ended, edge_refusal}
-use Rattle.hse_rows.specs.ScriptDone.{done, refused_to, failing, turned, turn_failed, job_done, job_failed, once_picked, job_refused}
-use Rattle.hse_rows.specs.ScriptStep.{MayFail, LacksMemory, Reopens, Step}
-use Rattle.hse_rows.specs.ScriptCalls.{Leads, turn_calls, job_calls, calls_of}
+use Rattle.hse_rows.specs.CoreStep.{Found}
+use Rattle.hse_rows.specs.ScriptRefusal.{with_built}
+use Rattle.hse_rows.specs.ScriptDone.{turned, turn_failed}
+use Rattle.hse_rows.specs.ScriptCalls.{Leads, turn_calls}
 use Rattle.hse_rows.proofs.PassLemmas.{found, found_job}
 use Rattle.hse_rows.proofs.CoreAnswers.{IsOther, call_passes}
 use Rattle.hse_rows.proofs.JobLemmas.{picks, with_built_job, build_passes, built_is, picked_drops, built_drops, picked_gone, built_gone}
-use Rattle.hse_rows.proofs.ScriptGoes.{not_told, passed}
 
 -- ---- turns
 

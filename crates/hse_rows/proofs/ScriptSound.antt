@@ -1,7 +1,6 @@
 -- Limits, records and standing timelines in every script.
 use Rattle.std.specs.List.{AllByRecursion}
 use Rattle.std.proofs.Common.{◌≡◌, ◌≢◌, ℕ, List, [], ◌∷◌, refl, sym, ap, subst}
-use Rattle.hse_rows.specs.Timeline.{Timeline}
 use Rattle.hse_rows.specs.Replies as replies
 use Rattle.hse_rows.specs.Replies.{Answer}
 use Rattle.hse_rows.specs.Calls.{Call}
@@ -12,7 +11,6 @@ use Rattle.hse_rows.specs.CoreStep.{Found, loads, breaks_off, has_version}
 use Rattle.hse_rows.specs.CoreStep as core
 use Rattle.hse_rows.specs.CoreLaws.{LoadsWithinLimits, LoadsState, Stands}
 use Rattle.hse_rows.specs.ScriptLines.{Line, reopen}
-use Rattle.hse_rows.specs.ScriptLines as lines
 use Rattle.hse_rows.specs.Script.{Script, begins_with}
 use Rattle.hse_rows.specs.ScriptStep.{Reopens, Step}
 use Rattle.hse_rows.specs.ScriptCalls.{Leads}
