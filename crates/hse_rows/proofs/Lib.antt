@@ -35,6 +35,7 @@ pub mod CoreGoes
 pub mod StandLemmas
 pub mod RowCases
 pub mod PhaseCases
+pub mod PickedCases
 pub mod CoreAnswers
 mod MeaningCases
 pub mod FitLemmas
