@@ -1,11 +1,13 @@
 -- Lines and machines of the tables of small cases.
-use Rattle.std.proofs.Common.{ℕ, true, List, []}
+use Rattle.std.proofs.Common.{ℕ, Bool, true, false, List, []}
 use Rattle.hse_rows.specs.declared.store.Mode.{Mode}
 use Rattle.hse_rows.specs.declared.change.Change.TheVariants.{Put, Del}
-use Rattle.hse_rows.specs.State.{State}
-use Rattle.hse_rows.specs.Log.{LogState}
+use Rattle.hse_rows.specs.State.{Store, State}
+use Rattle.hse_rows.specs.Log.{LogState, Numbered}
 use Rattle.hse_rows.specs.ManifestRoom.{ManifestState}
 use Rattle.hse_rows.specs.Sizes.{Sizes}
+use Rattle.hse_rows.specs.Layout.{Layout}
+use Rattle.hse_rows.specs.Job.{keys, values, spill, Run, ingesting, on_run, built_sets, installed}
 use Rattle.hse_rows.specs.Turn as wish
 use Rattle.hse_rows.specs.Core.{life, Stored}
 use Rattle.hse_rows.specs.Core as core
@@ -52,3 +54,28 @@ with_sizes s sizes = record s { core = record s.core { sizes = sizes } }
 
 abbrev pub number_of : Script → ℕ
 number_of s = core.number_of s.core
+
+-- ---- what jobs make of a layout when they are built and installed at once
+
+abbrev pub ingested : ℕ → Layout → List Store → List Numbered → Layout
+ingested slot_size layout stores commits =
+    installed layout ingesting (built_sets slot_size layout stores commits ingesting)
+
+abbrev after_run : ℕ → Layout → Run → Layout
+after_run slot_size layout run =
+    installed layout (on_run run) (built_sets slot_size layout [] [] (on_run run))
+
+abbrev pub compacted : ℕ → Layout → ℕ → List ℕ → ℕ → ℕ → Bool → Layout
+compacted slot_size layout store path older len last =
+    after_run slot_size layout
+    (record { kind = values; store = store; prefix_length = 0; path = path; older = older; len = len; last = last })
+
+abbrev pub keys_compacted : ℕ → Layout → ℕ → List ℕ → ℕ → ℕ → Bool → Layout
+keys_compacted slot_size layout store path older len last =
+    after_run slot_size layout
+    (record { kind = keys; store = store; prefix_length = 0; path = path; older = older; len = len; last = last })
+
+abbrev pub spilled : ℕ → Layout → ℕ → List ℕ → ℕ → ℕ → Layout
+spilled slot_size layout store path prefix_length len =
+    after_run slot_size layout
+    (record { kind = spill; store = store; prefix_length = prefix_length; path = path; older = 0; len = len; last = false })

@@ -1,5 +1,5 @@
 -- Each call has one answer but for want of memory and device faults, and an answer leads one way.
-use Rattle.std.proofs.Common.{◌≡◌, ◌≢◌, ℕ, List, Option, Some, None, refl, sym, ◌∙◌, ap}
+use Rattle.std.proofs.Common.{◌≡◌, ◌≢◌, ℕ, List, Option, Some, None, refl, sym, ◌∙◌, ap, subst}
 use Rattle.std.specs.FinMap as fin_map
 use Rattle.hse_rows.specs.State.{State, store_named}
 use Rattle.hse_rows.specs.Transaction.{read_of}
@@ -10,6 +10,7 @@ use Rattle.hse_rows.specs.Replies.{Refusal, busy, not_formed, other_version, Ans
 use Rattle.hse_rows.specs.Calls.{outside, inside, Call, begin, write_by, get, commit, abort, list_stores, tree, info, take_place, give_place, pick, build, drop_job, next_job, take, write_turn, end_turn, reopen}
 use Rattle.hse_rows.specs.Core.{Core, now}
 use Rattle.hse_rows.specs.CoreRefusal.{refusal, unless_busy}
+use Rattle.hse_rows.specs.CoreDone.{done, refused_to}
 use Rattle.hse_rows.specs.CoreReply.{reply, value_in, found_value, next_reply, end_reply}
 use Rattle.hse_rows.specs.Schedule.{next_wish}
 use Rattle.hse_rows.specs.CoreStep.{Found, loads, breaks_off, has_version, Reopens, Step, opening_answer, refused_or, answer_of, led_to}
@@ -94,20 +95,142 @@ end_plain home = tt
 end_plain (taken turn) = tt
 end_plain (ran turn has_failed) = tt
 
+-- ---- what nothing refuses
+
+-- a call that reopens nothing
+abbrev pub IsOther : Call → Type 0
+IsOther reopen = ⊥
+IsOther call = Unit {0}
+
 module _ (found : Found) (m : Core) where
+  -- a call gets this answer, and it is done
+  abbrev DoneBy : Call → Answer ℕ → Type 0
+  DoneBy call answer = refusal m call ≡ None → answer ≡ reply m call → Step found m call answer (done m call)
+
+  get_done : (name key : List ℕ) (answer : Answer ℕ) → IsPlain answer → DoneBy (get outside name key) answer
+  get_done name key accepted plain passed is = (passed, is, refl)
+  get_done name key (ok number) plain passed is = (passed, is, refl)
+  get_done name key none plain passed is = (passed, is, refl)
+  get_done name key (value bytes) plain passed is = (passed, is, refl)
+  get_done name key (pick_next wish) plain passed is = (passed, is, refl)
+  get_done name key (sets told) plain passed is = (passed, is, refl)
+  get_done name key answer plain passed is = absurd plain
+
+  get_inside_done : (order : ℕ) (name key : List ℕ) (answer : Answer ℕ) → IsPlain answer → DoneBy (get (inside order) name key) answer
+  get_inside_done order name key accepted plain passed is = (passed, is, refl)
+  get_inside_done order name key (ok number) plain passed is = (passed, is, refl)
+  get_inside_done order name key none plain passed is = (passed, is, refl)
+  get_inside_done order name key (value bytes) plain passed is = (passed, is, refl)
+  get_inside_done order name key (pick_next wish) plain passed is = (passed, is, refl)
+  get_inside_done order name key (sets told) plain passed is = (passed, is, refl)
+  get_inside_done order name key answer plain passed is = absurd plain
+
+  commit_done : (order : ℕ) (answer : Answer ℕ) → IsPlain answer → DoneBy (commit order) answer
+  commit_done order accepted plain passed is = (passed, is, refl)
+  commit_done order (ok number) plain passed is = (passed, is, refl)
+  commit_done order none plain passed is = (passed, is, refl)
+  commit_done order (value bytes) plain passed is = (passed, is, refl)
+  commit_done order (pick_next wish) plain passed is = (passed, is, refl)
+  commit_done order (sets told) plain passed is = (passed, is, refl)
+  commit_done order answer plain passed is = absurd plain
+
+  tree_done : (name : List ℕ) (answer : Answer ℕ) → IsPlain answer → DoneBy (tree name) answer
+  tree_done name accepted plain passed is = (passed, is, refl)
+  tree_done name (ok number) plain passed is = (passed, is, refl)
+  tree_done name none plain passed is = (passed, is, refl)
+  tree_done name (value bytes) plain passed is = (passed, is, refl)
+  tree_done name (pick_next wish) plain passed is = (passed, is, refl)
+  tree_done name (sets told) plain passed is = (passed, is, refl)
+  tree_done name answer plain passed is = absurd plain
+
+  build_done : (id : ℕ) (answer : Answer ℕ) → IsPlain answer → DoneBy (build id) answer
+  build_done id accepted plain passed is = (passed, is, refl)
+  build_done id (ok number) plain passed is = (passed, is, refl)
+  build_done id none plain passed is = (passed, is, refl)
+  build_done id (value bytes) plain passed is = (passed, is, refl)
+  build_done id (pick_next wish) plain passed is = (passed, is, refl)
+  build_done id (sets told) plain passed is = (passed, is, refl)
+  build_done id answer plain passed is = absurd plain
+
+  next_done : (answer : Answer ℕ) → IsPlain answer → DoneBy next_job answer
+  next_done accepted plain passed is = (passed, is, refl)
+  next_done (ok number) plain passed is = (passed, is, refl)
+  next_done none plain passed is = (passed, is, refl)
+  next_done (value bytes) plain passed is = (passed, is, refl)
+  next_done (pick_next wish) plain passed is = (passed, is, refl)
+  next_done (sets told) plain passed is = (passed, is, refl)
+  next_done answer plain passed is = absurd plain
+
+  end_done : (answer : Answer ℕ) → IsPlain answer → DoneBy end_turn answer
+  end_done accepted plain passed is = (passed, is, refl)
+  end_done (ok number) plain passed is = (passed, is, refl)
+  end_done none plain passed is = (passed, is, refl)
+  end_done (value bytes) plain passed is = (passed, is, refl)
+  end_done (pick_next wish) plain passed is = (passed, is, refl)
+  end_done (sets told) plain passed is = (passed, is, refl)
+  end_done answer plain passed is = absurd plain
+
+  -- a call that nothing refuses
+  pub call_passes : (call : Call) → IsOther call → refusal m call ≡ None → Step found m call (reply m call) (done m call)
+  call_passes begin other passed = (passed, refl, refl)
+  call_passes (write_by outside name change) other passed = (passed, refl, refl)
+  call_passes (write_by (inside order) name change) other passed = (passed, refl, refl)
+  call_passes (get outside name key) other passed = get_done name key (reply m (get outside name key)) (value_in_plain (now m) name key) passed refl
+  call_passes (get (inside order) name key) other passed =
+      get_inside_done order name key (reply m (get (inside order) name key))
+      (found_plain (transaction_of m.timeline order) none _ tt (λ transaction. value_in_plain (read_of m.timeline.base m.timeline.history transaction) name key))
+      passed refl
+  call_passes (commit order) other passed =
+      commit_done order (reply m (commit order)) (found_plain (transaction_of m.timeline order) accepted _ tt (λ transaction. tt)) passed refl
+  call_passes (abort order) other passed = (passed, refl, refl)
+  call_passes list_stores other passed = (passed, refl, refl)
+  call_passes (tree name) other passed = tree_done name (reply m (tree name)) (found_plain (store_named (now m) name) accepted _ tt (λ store. tt)) passed refl
+  call_passes info other passed = (passed, refl, refl)
+  call_passes take_place other passed = (passed, refl, refl)
+  call_passes give_place other passed = (passed, refl, refl)
+  call_passes (pick wish) other passed = (passed, refl, refl)
+  call_passes (build id) other passed = build_done id (reply m (build id)) (found_plain (job_of m.jobs id) accepted _ tt (λ job. tt)) passed refl
+  call_passes (drop_job id) other passed = (passed, refl, refl)
+  call_passes next_job other passed = next_done (reply m next_job) (next_plain (next_wish m)) passed refl
+  call_passes (take wish) other passed = (passed, refl, refl)
+  call_passes write_turn other passed = (passed, refl, refl)
+  call_passes end_turn other passed = end_done (reply m end_turn) (end_plain m.turn) passed refl
+  call_passes reopen other passed = absurd other
+
+  -- and one that is refused
+  pub call_refused : (call : Call) (reason : Refusal ℕ) → IsOther call → refusal m call ≡ Some reason
+      → Step found m call (refused reason) (refused_to m call)
+  call_refused begin reason other is = (is, refl)
+  call_refused (write_by actor name change) reason other is = (is, refl)
+  call_refused (get actor name key) reason other is = (is, refl)
+  call_refused (commit order) reason other is = (is, refl)
+  call_refused (abort order) reason other is = (is, refl)
+  call_refused list_stores reason other is = (is, refl)
+  call_refused (tree name) reason other is = (is, refl)
+  call_refused info reason other is = (is, refl)
+  call_refused take_place reason other is = (is, refl)
+  call_refused give_place reason other is = (is, refl)
+  call_refused (pick wish) reason other is = (is, refl)
+  call_refused (build id) reason other is = (is, refl)
+  call_refused (drop_job id) reason other is = (is, refl)
+  call_refused next_job reason other is = (is, refl)
+  call_refused (take wish) reason other is = (is, refl)
+  call_refused write_turn reason other is = (is, refl)
+  call_refused end_turn reason other is = (is, refl)
+  call_refused reopen reason other is = absurd other
+
+  -- ---- each call has its answer
+
   -- a call gets this answer
   abbrev Gets : Call → Answer ℕ → Type 0
   Gets call answer = Step found m call answer (led_to found m call answer)
 
-  -- what the refusal or the reply is
-  abbrev GetsBy : Call → Type 0
-  GetsBy call = (r : Option (Refusal ℕ)) → refusal m call ≡ r → Gets call (refused_or r (reply m call))
+  gets : (call : Call) (answer : Answer ℕ) (new : Core) → Step found m call answer new → Gets call answer
+  gets call answer new step = subst (Step found m call answer) (step_leads found m new call answer step) step
 
-  module _ (call : Call) (plainly : (answer : Answer ℕ) → IsPlain answer → refusal m call ≡ None → answer ≡ reply m call → Gets call answer)
-      (refusing : (reason : Refusal ℕ) → refusal m call ≡ Some reason → Gets call (refused reason)) where
-    gets_plain : IsPlain (reply m call) → GetsBy call
-    gets_plain plain None is = plainly (reply m call) plain is refl
-    gets_plain plain (Some reason) is = refusing reason is
+  other_gets : (call : Call) → IsOther call → (r : Option (Refusal ℕ)) → refusal m call ≡ r → Gets call (refused_or r (reply m call))
+  other_gets call other None is = gets call (reply m call) (done m call) (call_passes call other is)
+  other_gets call other (Some reason) is = gets call (refused reason) (refused_to m call) (call_refused call reason other is)
 
   opening_gets : (turn : Turn) → m.turn ≡ turn → Gets reopen (refused_or (unless_busy turn None) (opening_answer found))
   opening_gets home is = by found
@@ -122,135 +245,22 @@ module _ (found : Found) (m : Core) where
   opening_gets (taken turn) is = (ap (λ (t : Turn). unless_busy t None) is, refl)
   opening_gets (ran turn has_failed) is = (ap (λ (t : Turn). unless_busy t None) is, refl)
 
-  get_gets : (name key : List ℕ) (answer : Answer ℕ) → IsPlain answer → refusal m (get outside name key) ≡ None → answer ≡ reply m (get outside name key) → Gets (get outside name key) answer
-  get_gets name key accepted plain passed is = (passed, is, refl)
-  get_gets name key (ok number) plain passed is = (passed, is, refl)
-  get_gets name key none plain passed is = (passed, is, refl)
-  get_gets name key (value bytes) plain passed is = (passed, is, refl)
-  get_gets name key (pick_next wish) plain passed is = (passed, is, refl)
-  get_gets name key (sets told) plain passed is = (passed, is, refl)
-  get_gets name key answer plain passed is = absurd plain
-
-  get_inside_gets : (order : ℕ) (name key : List ℕ) (answer : Answer ℕ) → IsPlain answer → refusal m (get (inside order) name key) ≡ None → answer ≡ reply m (get (inside order) name key) → Gets (get (inside order) name key) answer
-  get_inside_gets order name key accepted plain passed is = (passed, is, refl)
-  get_inside_gets order name key (ok number) plain passed is = (passed, is, refl)
-  get_inside_gets order name key none plain passed is = (passed, is, refl)
-  get_inside_gets order name key (value bytes) plain passed is = (passed, is, refl)
-  get_inside_gets order name key (pick_next wish) plain passed is = (passed, is, refl)
-  get_inside_gets order name key (sets told) plain passed is = (passed, is, refl)
-  get_inside_gets order name key answer plain passed is = absurd plain
-
-  commit_gets : (order : ℕ) (answer : Answer ℕ) → IsPlain answer → refusal m (commit order) ≡ None → answer ≡ reply m (commit order) → Gets (commit order) answer
-  commit_gets order accepted plain passed is = (passed, is, refl)
-  commit_gets order (ok number) plain passed is = (passed, is, refl)
-  commit_gets order none plain passed is = (passed, is, refl)
-  commit_gets order (value bytes) plain passed is = (passed, is, refl)
-  commit_gets order (pick_next wish) plain passed is = (passed, is, refl)
-  commit_gets order (sets told) plain passed is = (passed, is, refl)
-  commit_gets order answer plain passed is = absurd plain
-
-  tree_gets : (name : List ℕ) (answer : Answer ℕ) → IsPlain answer → refusal m (tree name) ≡ None → answer ≡ reply m (tree name) → Gets (tree name) answer
-  tree_gets name accepted plain passed is = (passed, is, refl)
-  tree_gets name (ok number) plain passed is = (passed, is, refl)
-  tree_gets name none plain passed is = (passed, is, refl)
-  tree_gets name (value bytes) plain passed is = (passed, is, refl)
-  tree_gets name (pick_next wish) plain passed is = (passed, is, refl)
-  tree_gets name (sets told) plain passed is = (passed, is, refl)
-  tree_gets name answer plain passed is = absurd plain
-
-  build_gets : (id : ℕ) (answer : Answer ℕ) → IsPlain answer → refusal m (build id) ≡ None → answer ≡ reply m (build id) → Gets (build id) answer
-  build_gets id accepted plain passed is = (passed, is, refl)
-  build_gets id (ok number) plain passed is = (passed, is, refl)
-  build_gets id none plain passed is = (passed, is, refl)
-  build_gets id (value bytes) plain passed is = (passed, is, refl)
-  build_gets id (pick_next wish) plain passed is = (passed, is, refl)
-  build_gets id (sets told) plain passed is = (passed, is, refl)
-  build_gets id answer plain passed is = absurd plain
-
-  next_gets : (answer : Answer ℕ) → IsPlain answer → refusal m next_job ≡ None → answer ≡ reply m next_job → Gets next_job answer
-  next_gets accepted plain passed is = (passed, is, refl)
-  next_gets (ok number) plain passed is = (passed, is, refl)
-  next_gets none plain passed is = (passed, is, refl)
-  next_gets (value bytes) plain passed is = (passed, is, refl)
-  next_gets (pick_next wish) plain passed is = (passed, is, refl)
-  next_gets (sets told) plain passed is = (passed, is, refl)
-  next_gets answer plain passed is = absurd plain
-
-  end_gets : (answer : Answer ℕ) → IsPlain answer → refusal m end_turn ≡ None → answer ≡ reply m end_turn → Gets end_turn answer
-  end_gets accepted plain passed is = (passed, is, refl)
-  end_gets (ok number) plain passed is = (passed, is, refl)
-  end_gets none plain passed is = (passed, is, refl)
-  end_gets (value bytes) plain passed is = (passed, is, refl)
-  end_gets (pick_next wish) plain passed is = (passed, is, refl)
-  end_gets (sets told) plain passed is = (passed, is, refl)
-  end_gets answer plain passed is = absurd plain
-
   pub call_gets : (call : Call) → Gets call (answer_of found m call)
-  call_gets begin = by (refusal m begin) refl
-    where
-      by : GetsBy begin
-      by None is = (is, refl, refl)
-      by (Some reason) is = (is, refl)
-  call_gets (write_by outside name change) = by (refusal m (write_by outside name change)) refl
-    where
-      by : GetsBy (write_by outside name change)
-      by None is = (is, refl, refl)
-      by (Some reason) is = (is, refl)
-  call_gets (write_by (inside order) name change) = by (refusal m (write_by (inside order) name change)) refl
-    where
-      by : GetsBy (write_by (inside order) name change)
-      by None is = (is, refl, refl)
-      by (Some reason) is = (is, refl)
-  call_gets (abort order) = by (refusal m (abort order)) refl
-    where
-      by : GetsBy (abort order)
-      by None is = (is, refl, refl)
-      by (Some reason) is = (is, refl)
-  call_gets list_stores = by (refusal m list_stores) refl
-    where
-      by : GetsBy list_stores
-      by None is = (is, refl, refl)
-      by (Some reason) is = (is, refl)
-  call_gets info = by (refusal m info) refl
-    where
-      by : GetsBy info
-      by None is = (is, refl, refl)
-      by (Some reason) is = (is, refl)
-  call_gets take_place = by (refusal m take_place) refl
-    where
-      by : GetsBy take_place
-      by None is = (is, refl, refl)
-      by (Some reason) is = (is, refl)
-  call_gets give_place = by (refusal m give_place) refl
-    where
-      by : GetsBy give_place
-      by None is = (is, refl, refl)
-      by (Some reason) is = (is, refl)
-  call_gets (pick wish) = by (refusal m (pick wish)) refl
-    where
-      by : GetsBy (pick wish)
-      by None is = (is, refl, refl)
-      by (Some reason) is = (is, refl)
-  call_gets (drop_job id) = by (refusal m (drop_job id)) refl
-    where
-      by : GetsBy (drop_job id)
-      by None is = (is, refl, refl)
-      by (Some reason) is = (is, refl)
-  call_gets (take wish) = by (refusal m (take wish)) refl
-    where
-      by : GetsBy (take wish)
-      by None is = (is, refl, refl)
-      by (Some reason) is = (is, refl)
-  call_gets write_turn = by (refusal m write_turn) refl
-    where
-      by : GetsBy write_turn
-      by None is = (is, refl, refl)
-      by (Some reason) is = (is, refl)
-  call_gets (get outside name key) = gets_plain (get outside name key) (get_gets name key) (λ reason is. (is, refl)) (value_in_plain (now m) name key) (refusal m (get outside name key)) refl
-  call_gets (get (inside order) name key) = gets_plain (get (inside order) name key) (get_inside_gets order name key) (λ reason is. (is, refl)) (found_plain (transaction_of m.timeline order) none _ tt (λ transaction. value_in_plain (read_of m.timeline.base m.timeline.history transaction) name key)) (refusal m (get (inside order) name key)) refl
-  call_gets (commit order) = gets_plain (commit order) (commit_gets order) (λ reason is. (is, refl)) (found_plain (transaction_of m.timeline order) accepted _ tt (λ transaction. tt)) (refusal m (commit order)) refl
-  call_gets (tree name) = gets_plain (tree name) (tree_gets name) (λ reason is. (is, refl)) (found_plain (store_named (now m) name) accepted _ tt (λ store. tt)) (refusal m (tree name)) refl
-  call_gets (build id) = gets_plain (build id) (build_gets id) (λ reason is. (is, refl)) (found_plain (job_of m.jobs id) accepted _ tt (λ job. tt)) (refusal m (build id)) refl
-  call_gets next_job = gets_plain next_job next_gets (λ reason is. (is, refl)) (next_plain (next_wish m)) (refusal m next_job) refl
-  call_gets end_turn = gets_plain end_turn end_gets (λ reason is. (is, refl)) (end_plain m.turn) (refusal m end_turn) refl
+  call_gets begin = other_gets begin tt (refusal m begin) refl
+  call_gets (write_by actor name change) = other_gets (write_by actor name change) tt (refusal m (write_by actor name change)) refl
+  call_gets (get actor name key) = other_gets (get actor name key) tt (refusal m (get actor name key)) refl
+  call_gets (commit order) = other_gets (commit order) tt (refusal m (commit order)) refl
+  call_gets (abort order) = other_gets (abort order) tt (refusal m (abort order)) refl
+  call_gets list_stores = other_gets list_stores tt (refusal m list_stores) refl
+  call_gets (tree name) = other_gets (tree name) tt (refusal m (tree name)) refl
+  call_gets info = other_gets info tt (refusal m info) refl
+  call_gets take_place = other_gets take_place tt (refusal m take_place) refl
+  call_gets give_place = other_gets give_place tt (refusal m give_place) refl
+  call_gets (pick wish) = other_gets (pick wish) tt (refusal m (pick wish)) refl
+  call_gets (build id) = other_gets (build id) tt (refusal m (build id)) refl
+  call_gets (drop_job id) = other_gets (drop_job id) tt (refusal m (drop_job id)) refl
+  call_gets next_job = other_gets next_job tt (refusal m next_job) refl
+  call_gets (take wish) = other_gets (take wish) tt (refusal m (take wish)) refl
+  call_gets write_turn = other_gets write_turn tt (refusal m write_turn) refl
+  call_gets end_turn = other_gets end_turn tt (refusal m end_turn) refl
   call_gets reopen = opening_gets m.turn refl

@@ -1,5 +1,5 @@
--- Calls record commits in the log.
-use Rattle.std.proofs.Common.{◌≡◌, ◌≢◌, ℕ, ◌+◌, ◌≤◌, ◌==◌, true, false, cond, List, [], ◌∷◌, ◌++◌, length, Option, Some, None, refl, sym, ◌∙◌, ap, subst, arith, append_assoc, length-append}
+-- The log keeps the commits.
+use Rattle.std.proofs.Common.{◌≡◌, ℕ, ◌+◌, ◌≤◌, ◌==◌, true, false, cond, List, [], ◌∷◌, ◌++◌, length, Option, Some, None, refl, sym, ◌∙◌, ap, subst, arith, append_assoc, length-append}
 use Rattle.hse_rows.specs.declared.write.Write.{Write}
 use Rattle.hse_rows.specs.NormalForm.{normal_form}
 use Rattle.hse_rows.specs.State.{State, store_named}
@@ -10,16 +10,13 @@ use Rattle.hse_rows.specs.Timeline.{Timeline, transaction_of, snapshot_of, for_s
 use Rattle.hse_rows.specs.Log.{LogState, Frozen, Numbered, logged}
 use Rattle.hse_rows.specs.Job.{JobWish, ingest, of_run, Work, ingesting, on_run, job_of}
 use Rattle.hse_rows.specs.Turn.{TurnWish, sync, freeze, install, create, drop, Plan, settles, enters, removes, installs, Turn, home, taken, ran}
-use Rattle.hse_rows.specs.Replies as replies
-use Rattle.hse_rows.specs.Replies.{Answer}
 use Rattle.hse_rows.specs.Calls.{outside, inside, Call, begin, write_by, get, commit, abort, list_stores, tree, info, take_place, give_place, pick, build, drop_job, next_job, take, write_turn, end_turn, reopen}
 use Rattle.hse_rows.specs.Core.{Core, now, number_of, oldest, write_to, with_move}
-use Rattle.hse_rows.specs.CoreDone.{done, refused_to, failing, log_with, frozen_log, taking, without_oldest, oldest_gone, log_after, picking, building, planned, ending, ending_failed, given_up}
-use Rattle.hse_rows.specs.CoreStep.{Found, Step}
-use Rattle.hse_rows.specs.Recorded.{commits_in, CommitsUpTo, AreLayers, frozen_commits, commits_of, Records, IsRecorded}
+use Rattle.hse_rows.specs.CoreDone.{done, refused_to, log_with, frozen_log, taking, without_oldest, oldest_gone, log_after, picking, building, planned, ending, ending_failed, given_up}
+use Rattle.hse_rows.specs.Recorded.{commits_in, CommitsUpTo, AreLayers, frozen_commits, commits_of, Records}
 use Rattle.hse_rows.proofs.RecordLemmas.{commits_push}
 
-none_added : {A : Type 0} (xs : List A) → xs ++ [] ≡ xs
+pub none_added : {A : Type 0} (xs : List A) → xs ++ [] ≡ xs
 none_added [] = refl
 none_added {A = A} (x ∷ xs) = ap (λ (l : List A). x ∷ l) (none_added xs)
 
@@ -108,13 +105,13 @@ module _ (before : List Numbered) (log : LogState) (base : State) (events : List
 
 -- ---- the oldest layer leaves
 
-record Leaves (horizon last : ℕ) (layers : List Frozen) (layer : Frozen) : Type 0 where
+pub record Leaves (horizon last : ℕ) (layers : List Frozen) (layer : Frozen) : Type 0 where
   split : frozen_commits layers ≡ layer.commits ++ frozen_commits (without_oldest layers)
   up_to : CommitsUpTo layer.last layer.commits
-  above : horizon ≤ layer.last
+  pub above : horizon ≤ layer.last
   rest : AreLayers layer.last last (without_oldest layers)
 
-leaves : (horizon last : ℕ) (layers : List Frozen) (layer : Frozen) → oldest layers ≡ Some layer → AreLayers horizon last layers → Leaves horizon last layers layer
+pub leaves : (horizon last : ℕ) (layers : List Frozen) (layer : Frozen) → oldest layers ≡ Some layer → AreLayers horizon last layers → Leaves horizon last layers layer
 leaves horizon last [] layer is are = absurd cc
 leaves horizon last (first ∷ []) layer is are =
     let same : first ≡ layer = cc in
@@ -161,19 +158,22 @@ log_after_recorded before log base events (on_run run) good = good
 
 -- ---- calls
 
-module _ (before : List Numbered) (m : Core) (good : IsRecorded before m) where
-  looked_up : {X : Type 0} (it : Option X) (leads_to : X → Core) → ((x : X) → IsRecorded before (leads_to x)) → IsRecorded before (for_some it m leads_to)
+abbrev pub InLog : List Numbered → Core → Type 0
+InLog before m = Records before m.log m.timeline.base m.timeline.history
+
+module _ (before : List Numbered) (m : Core) (good : InLog before m) where
+  looked_up : {X : Type 0} (it : Option X) (leads_to : X → Core) → ((x : X) → InLog before (leads_to x)) → InLog before (for_some it m leads_to)
   looked_up None leads_to each = good
   looked_up (Some x) leads_to each = each x
 
   -- other transactions
   same_events : (it : Option Transaction) (leads_to : Transaction → Timeline) → ((t : Transaction) → Records before m.log (leads_to t).base (leads_to t).history)
-      → IsRecorded before (record m { timeline = for_some it m.timeline leads_to })
+      → InLog before (record m { timeline = for_some it m.timeline leads_to })
   same_events None leads_to each = good
   same_events (Some t) leads_to each = each t
 
   committed_recorded : (order : ℕ) (transaction : Transaction) (writes : List Write) → transaction.writes ≡ writes
-      → IsRecorded before (record m { timeline = committing m.timeline order transaction writes; log = log_with m writes })
+      → InLog before (record m { timeline = committing m.timeline order transaction writes; log = log_with m writes })
   committed_recorded order transaction [] is = good
   committed_recorded order transaction (write ∷ writes) is =
       subst
@@ -182,15 +182,15 @@ module _ (before : List Numbered) (m : Core) (good : IsRecorded before m) where
       (commit_recorded before m.log m.timeline.base m.timeline.history good (normal_form (write ∷ writes)))
 
   commit_call : (order : ℕ) (it : Option Transaction) → transaction_of m.timeline order ≡ it
-      → IsRecorded before (for_some it m (λ transaction. record (with_move m (move.commit order)) { log = log_with m transaction.writes }))
+      → InLog before (for_some it m (λ transaction. record (with_move m (move.commit order)) { log = log_with m transaction.writes }))
   commit_call order None is = good
   commit_call order (Some transaction) is =
       subst
-      (λ (t : Option Transaction). IsRecorded before
+      (λ (t : Option Transaction). InLog before
       (record m { timeline = for_some t m.timeline (λ x. committing m.timeline order x x.writes); log = log_with m transaction.writes }))
       (sym is) (committed_recorded order transaction transaction.writes refl)
 
-  taking_recorded : (wish : TurnWish) → IsRecorded before (taking m wish)
+  taking_recorded : (wish : TurnWish) → InLog before (taking m wish)
   taking_recorded sync = good
   taking_recorded freeze = frozen_recorded before m.log m.timeline.base m.timeline.history good
   taking_recorded (install id) = looked_up (job_of m.jobs id) _ (λ job. good)
@@ -198,38 +198,38 @@ module _ (before : List Numbered) (m : Core) (good : IsRecorded before m) where
   taking_recorded (drop name) =
       looked_up (store_named (now m) name) _ (λ store. other_recorded before m.log m.timeline.base m.timeline.history good (drops store.id) refl)
 
-  picking_recorded : (wish : JobWish) → IsRecorded before (picking m wish)
+  picking_recorded : (wish : JobWish) → InLog before (picking m wish)
   picking_recorded ingest = good
   picking_recorded (of_run kind name path from len) = looked_up (store_named (now m) name) _ (λ store. good)
 
-  planned_recorded : (number : ℕ) (plan : Plan) → IsRecorded before (planned m number plan)
+  planned_recorded : (number : ℕ) (plan : Plan) → InLog before (planned m number plan)
   planned_recorded number settles = good
   planned_recorded number (enters manifest) = good
   planned_recorded number (removes id manifest) = good
   planned_recorded number (installs id work new manifest) = log_after_recorded before m.log m.timeline.base m.timeline.history work good
 
-  ending_recorded : (turn : Turn) → IsRecorded before (ending m turn)
+  ending_recorded : (turn : Turn) → InLog before (ending m turn)
   ending_recorded home = good
   ending_recorded (taken turn) = good
   ending_recorded (ran turn has_failed) = planned_recorded turn.number turn.plan
 
-  given_up_recorded : (plan : Plan) → IsRecorded before (given_up m plan)
+  given_up_recorded : (plan : Plan) → InLog before (given_up m plan)
   given_up_recorded settles = good
   given_up_recorded (enters manifest) = good
   given_up_recorded (removes id manifest) = good
   given_up_recorded (installs id work new manifest) = good
 
-  ending_failed_recorded : (turn : Turn) → IsRecorded before (ending_failed m turn)
+  ending_failed_recorded : (turn : Turn) → InLog before (ending_failed m turn)
   ending_failed_recorded home = good
   ending_failed_recorded (taken turn) = good
   ending_failed_recorded (ran turn false) = good
   ending_failed_recorded (ran turn true) = given_up_recorded turn.plan
 
-  refused_recorded : (call : Call) → IsRecorded before (refused_to m call)
+  pub refused_recorded : (call : Call) → InLog before (refused_to m call)
   refused_recorded end_turn = ending_failed_recorded m.turn
   refused_recorded call = good
 
-  done_recorded : (call : Call) → IsRecorded before (done m call)
+  pub done_recorded : (call : Call) → InLog before (done m call)
   done_recorded begin = good
   done_recorded (write_by outside name change) =
       looked_up (store_named (now m) name) _ (λ store. commit_recorded before m.log m.timeline.base m.timeline.history good (normal_form (write_to store change ∷ [])))
@@ -252,16 +252,3 @@ module _ (before : List Numbered) (m : Core) (good : IsRecorded before m) where
   done_recorded write_turn = good
   done_recorded end_turn = ending_recorded m.turn
   done_recorded reopen = good
-
-same_record : (before : List Numbered) (one other : Core) → other ≡ one → IsRecorded before one → IsRecorded before other
-same_record before one other is good = subst (IsRecorded before) (sym is) good
-
-pub step_records : (before : List Numbered) (found : Found) (old new : Core) (call : Call) (answer : Answer ℕ) → call ≢ reopen → IsRecorded before old
-    → Step found old call answer new → IsRecorded before new
-step_records before found old new call replies.no_memory other good step = same_record before old new step good
-step_records before found old new reopen answer other good step = absurd (other refl)
-step_records before found old new write_turn replies.device_fault other good step = same_record before (failing old write_turn) new step.1 good
-step_records before found old new call replies.device_fault other good step = absurd step
-step_records before found old new call (replies.refused reason) other good step =
-    same_record before (refused_to old call) new step.1 (refused_recorded before old good call)
-step_records before found old new call answer other good step = same_record before (done old call) new step.2 (done_recorded before old good call)

@@ -11,7 +11,8 @@ use Rattle.hse_rows.specs.History.{new_store}
 use Rattle.hse_rows.specs.Log.{Numbered}
 use Rattle.hse_rows.specs.Newest.{newest, merged, rows_of}
 use Rattle.hse_rows.specs.Routing.{greatest_depth, child_of, hash_of}
-use Rattle.hse_rows.specs.Layout.{Layout, Node, sets_at, ingested, compacted, spilled, is_last}
+use Rattle.hse_rows.specs.Layout.{Layout, Node, sets_at, is_last}
+use Rattle.hse_rows.proofs.CaseLines.{ingested, compacted, spilled}
 
 abbrev numbered : ℕ → Change → Row
 numbered number change = record { number = number; change = change }

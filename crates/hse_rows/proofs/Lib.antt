@@ -35,9 +35,21 @@ pub mod CoreGoes
 pub mod StandLemmas
 pub mod RowCases
 pub mod PhaseCases
+pub mod PickedCases
 pub mod CoreAnswers
 mod MeaningCases
+pub mod FitLemmas
+pub mod CoreFits
 pub mod CoreLimits
 pub mod CoreRecords
+pub mod ManifestRecords
+pub mod CoreKeepsRecords
 pub mod TurnLemmas
 pub mod ScriptGoes
+pub mod JobLemmas
+pub mod ScriptRuns
+pub mod LineCalls
+pub mod LineSteps
+pub mod LineAnswers
+pub mod LineKeeps
+pub mod ScriptSound

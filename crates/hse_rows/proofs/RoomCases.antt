@@ -237,7 +237,8 @@ a_new_device_is_within_them = record {
   slots = omega arith;
   since_base = omega arith;
   until_now = omega arith;
-  jobs = omega arith;
+  transactions = record { live = omega arith; begins = omega arith };
+  jobs = record { live = omega arith; ids = tt };
   cursors = omega arith;
   turn = tt;
 }

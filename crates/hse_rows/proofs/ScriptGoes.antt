@@ -1,5 +1,5 @@
 -- Lines keep transactions apart.
-use Rattle.std.proofs.Common.{◌≡◌, ℕ, Bool, true, false, List, [], ◌∷◌, Option, Some, None, refl, sym, ◌∙◌, subst}
+use Rattle.std.proofs.Common.{◌≡◌, inl, inr, ℕ, Bool, true, false, cond, List, [], ◌∷◌, Option, Some, None, is_some, refl, sym, ◌∙◌, subst}
 use Rattle.hse_rows.specs.State.{store_named}
 use Rattle.hse_rows.specs.Transaction.{read_of}
 use Rattle.hse_rows.specs.Timeline.{for_some, transaction_of}
@@ -19,18 +19,18 @@ use Rattle.hse_rows.specs.ScriptLines.{Who, nobody, someone, Line, begin, write_
 use Rattle.hse_rows.specs.Script.{Script, begins_with, order_of, job_named, cursor_named, is_begun}
 use Rattle.hse_rows.specs.ScriptNames.{told}
 use Rattle.hse_rows.specs.ScriptRefusal.{refusal, refuse, asked, with_built}
-use Rattle.hse_rows.specs.ScriptDone.{done, refused_to, failing, turned, turn_failed, ran, job_done, job_failed}
-use Rattle.hse_rows.specs.ScriptStep.{Reopens, Step}
+use Rattle.hse_rows.specs.ScriptDone.{done, refused_to, failing, turned, turn_failed, ran, job_done, job_failed, once_picked, job_refused}
+use Rattle.hse_rows.specs.ScriptStep.{LacksMemory, Reopens, Step}
 use Rattle.hse_rows.specs.ScriptLaws.{Entry, Run}
 use Rattle.hse_rows.proofs.IsolationLemmas.{opened_isolated, goes_isolated, are_isolated}
 use Rattle.hse_rows.proofs.CoreGoes.{done_goes, done_keeps, refused_keeps}
 
 -- what the core does not refuse
-not_told : (s : Script) (reason : Option (Refusal ℕ)) → told s reason ≡ None → reason ≡ None
+pub not_told : (s : Script) (reason : Option (Refusal ℕ)) → told s reason ≡ None → reason ≡ None
 not_told s None none = refl
 not_told s (Some reason) none = absurd cc
 
-passed : (test : Bool) (reason : Refusal (List ℕ)) (later : Option (Refusal (List ℕ))) → refuse test reason later ≡ None → later ≡ None
+pub passed : (test : Bool) (reason : Refusal (List ℕ)) (later : Option (Refusal (List ℕ))) → refuse test reason later ≡ None → later ≡ None
 passed true reason later none = absurd cc
 passed false reason later none = none
 
@@ -114,7 +114,16 @@ module _ (s : Script) (good : IsIsolated s.core.timeline) where
   line_isolated silent none = good
   line_isolated bad none = good
 
+  job_refused_isolated : (wish : JobWish) → Keeps (job_refused s wish)
+  job_refused_isolated wish = by (is_some (asked s (call.pick wish)))
+    where
+      by : (b : Bool) → Keeps (cond b s (once_picked s))
+      by true = good
+      by false = good
+
   refused_isolated : (line : Line) → Keeps (refused_to s line)
+  refused_isolated (job wish) = job_refused_isolated wish
+  refused_isolated auto = looked_up_anyhow (next_wish s.core) (job_refused s) job_refused_isolated
   refused_isolated end_turn = at (leads.refused_to s.core call.end_turn) (refused_keeps s.core call.end_turn).timeline
   refused_isolated line = good
 
@@ -128,6 +137,13 @@ module _ (s : Script) (good : IsIsolated s.core.timeline) where
 same_isolated : (one other : Script) → other ≡ one → IsIsolated one.core.timeline → IsIsolated other.core.timeline
 same_isolated one other is good = subst (λ (s : Script). IsIsolated s.core.timeline) (sym is) good
 
+lacking_isolated : (old new : Script) (line : Line) → IsIsolated old.core.timeline → LacksMemory old line new → IsIsolated new.core.timeline
+lacking_isolated old new (job wish) good (inl is) = same_isolated old new is good
+lacking_isolated old new (job wish) good (inr is) = same_isolated (refused_to old (job wish)) new is (refused_isolated old good (job wish))
+lacking_isolated old new auto good (inl is) = same_isolated old new is good
+lacking_isolated old new auto good (inr is) = same_isolated (refused_to old auto) new is (refused_isolated old good auto)
+lacking_isolated old new line good step = same_isolated old new step good
+
 reopening_isolated : (found : Found) (old new : Script) (answer : Answer (List ℕ)) → IsIsolated old.core.timeline → Reopens found old answer new
     → IsIsolated new.core.timeline
 reopening_isolated (loads stored) old new (replies.ok number) good step = same_isolated (begins_with (life stored)) new step.1 (opened_isolated stored.base)
@@ -140,7 +156,7 @@ pub step_isolated : (found : Found) (old new : Script) (line : Line) (answer : A
     → Step found old line answer new → IsIsolated new.core.timeline
 step_isolated found old new silent replies.silence good step = same_isolated old new step good
 step_isolated found old new silent answer good step = absurd step
-step_isolated found old new line replies.no_memory good step = same_isolated old new step good
+step_isolated found old new line replies.no_memory good step = lacking_isolated old new line good step
 step_isolated found old new reopen (replies.refused (replies.busy kind)) good step = same_isolated old new step.1 good
 step_isolated found old new reopen answer good step = reopening_isolated found old new answer good step.1
 step_isolated found old new line replies.device_fault good step = same_isolated (failing old line) new step.2 (failing_isolated old good line step.1)

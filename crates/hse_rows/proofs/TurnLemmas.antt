@@ -1,24 +1,32 @@
 -- The phases of a turn in a row.
-use Rattle.std.proofs.Common.{◌≡◌, true, Option, refl, sym, subst}
+use Rattle.std.proofs.Common.{◌≡◌, ◌+◌, true, [], ◌∷◌, ◌++◌, Option, refl, sym, ap, subst, arith, length-append}
 use Rattle.hse_rows.specs.State.{Store}
+use Rattle.hse_rows.specs.History.{Event, creates, last_number}
+use Rattle.hse_rows.specs.History as history
 use Rattle.hse_rows.specs.Timeline.{for_some}
 use Rattle.hse_rows.specs.Moves as move
 use Rattle.hse_rows.specs.Turn.{dropping, removes}
+use Rattle.hse_rows.specs.Replies.{ok}
 use Rattle.hse_rows.specs.Calls.{write_turn, end_turn}
-use Rattle.hse_rows.specs.Core.{Core, with_move}
+use Rattle.hse_rows.specs.Core.{Core, number_of, with_move}
 use Rattle.hse_rows.specs.ManifestEntry.{drop_entry, entered}
+use Rattle.hse_rows.specs.CoreReply.{reply}
 use Rattle.hse_rows.specs.CoreDone.{done, failing, refused_to, with_turn}
 use Rattle.hse_rows.specs.ScriptLaws.{SyncsAreOneStep, CreationsAreOneStep, DropsAreOneStep}
 
+next_number : (m : Core) (event : Event) → last_number m.timeline.base (m.timeline.history ++ event ∷ []) ≡ number_of m + 1
+next_number m event = omega (arith, length-append m.timeline.history (event ∷ []))
+
 pub syncs : SyncsAreOneStep
-syncs m = (refl, refl)
+syncs m = (refl, refl, refl)
 
 pub creations : CreationsAreOneStep
-creations m name mode prefix_length = (refl, refl)
+creations m name mode prefix_length = (refl, ap ok (next_number m (creates name mode prefix_length)), refl)
 
 pub drops : DropsAreOneStep
 drops m name store is = (
   subst (λ (it : Option Store). done (done (taken_for it) write_turn) end_turn ≡ done (done (one store) write_turn) end_turn) (sym is) refl,
+  subst (λ (it : Option Store). reply (done (taken_for it) write_turn) end_turn ≡ ok (number_of m + 1)) (sym is) (ap ok (next_number m (history.drops store.id))),
   subst
       (λ (it : Option Store). refused_to (failing (taken_for it) write_turn) end_turn ≡ refused_to (failing (one store) write_turn) end_turn)
       (sym is) refl,

@@ -68,9 +68,14 @@ committing_write m write = record (with_move m (moves.write_out write)) {
 
 -- ---- turns
 
+-- a turn up to this number
+abbrev pub with_turn_up_to : Core → ℕ → TurnKind → Plan → Bool → Core
+with_turn_up_to m number kind plan calls =
+    record m { turn = taken (record { kind = kind; number = number; plan = plan; calls = calls }) }
+
+-- and one up to the last number
 abbrev pub with_turn : Core → TurnKind → Plan → Bool → Core
-with_turn m kind plan calls =
-    record m { turn = taken (record { kind = kind; number = number_of m; plan = plan; calls = calls }) }
+with_turn m kind plan calls = with_turn_up_to m (number_of m) kind plan calls
 
 -- commits wait for the device
 abbrev pub has_pending : Core → Bool
@@ -95,7 +100,7 @@ taking m freeze =
     (not (length m.log.active == 0) || has_pending m)
 taking m (install id) =
     for_some (job_of m.jobs id) m (λ job.
-    with_turn (with_installing m job) turns.installing
+    with_turn_up_to (with_installing m job) m.safe turns.installing
     (installs id job.work job.sets (entered m (install_entry m job.work job.sets))) true)
 taking m (create name mode prefix) =
     with_turn (with_move m (moves.create name mode prefix)) creating

@@ -1,5 +1,6 @@
 -- Laws of the core, each the clause of a function of `src/core_laws.rt`.
 use Rattle.std.specs.Prelude.{◌≡◌, ◌≢◌, ℕ, List, [], ◌∷◌}
+use Rattle.std.specs.List.{AllByRecursion}
 use Rattle.hse_rows.specs.State.{IsState}
 use Rattle.hse_rows.specs.Rooted.{AreRooted}
 use Rattle.hse_rows.specs.Timeline.{Timeline, Goes}
@@ -7,11 +8,10 @@ use Rattle.hse_rows.specs.Timeline as timeline
 use Rattle.hse_rows.specs.Isolation.{IsIsolated, AreIsolated}
 use Rattle.hse_rows.specs.Sources.{IsSourced}
 use Rattle.hse_rows.specs.Turn.{TurnWish, sync, freeze, install, create, drop}
-use Rattle.hse_rows.specs.Replies.{Refusal, Answer, refused, no_memory, device_fault, canceled_held, canceled_since}
+use Rattle.hse_rows.specs.Replies.{Refusal, Answer, ok, refused, no_memory, device_fault, canceled_held, canceled_since}
 use Rattle.hse_rows.specs.Calls.{Call, begin, write_by, get, commit, abort, list_stores, tree, info, take_place, give_place, pick, build, drop_job, next_job, take, write_turn, end_turn, reopen}
 use Rattle.hse_rows.specs.Core.{Core, Stored, life}
-use Rattle.hse_rows.specs.Log.{Numbered}
-use Rattle.hse_rows.specs.Recorded.{IsRecorded}
+use Rattle.hse_rows.specs.Recorded.{IsRecorded, IsInOrder}
 use Rattle.hse_rows.specs.Limits.{IsWithinLimits}
 use Rattle.hse_rows.specs.CoreStep.{Found, loads, breaks_off, has_version, Step, answer_of, led_to}
 
@@ -177,10 +177,35 @@ StepsKeepLimits =
     (found : Found) (old new : Core) (call : Call) (answer : Answer ℕ)
     → IsWithinLimits old → LoadsWithinLimits found → Step found old call answer new → IsWithinLimits new
 
--- ---- what the log keeps
+-- ---- what log and manifest keep
 
--- Until a reopening, the log has the commits of the history, but for those up to the horizon.
-abbrev pub StepsRecordCommits : Type 0
-StepsRecordCommits =
-    (before : List Numbered) (found : Found) (old new : Core) (call : Call) (answer : Answer ℕ)
-    → call ≢ reopen → IsRecorded before old → Step found old call answer new → IsRecorded before new
+-- what the device stored when the life began that this answer leaves
+abbrev pub stored_by : Stored → Found → Call → Answer ℕ → Stored
+stored_by since (loads stored) reopen (ok number) = stored
+stored_by since found call answer = since
+
+abbrev pub stored_in : Stored → List Entry → Stored
+stored_in since [] = since
+stored_in since (entry ∷ entries) = stored_in (stored_by since entry.found entry.call entry.answer) entries
+
+abbrev pub LoadsInOrder : Found → Type 0
+LoadsInOrder (loads stored) = IsInOrder stored
+LoadsInOrder (breaks_off part place) = Unit {0}
+LoadsInOrder (has_version version) = Unit {0}
+
+-- A life begins recorded.
+abbrev pub LivesBeginRecorded : Type 0
+LivesBeginRecorded = (stored : Stored) → IsInOrder stored → IsRecorded stored (life stored)
+
+-- The log has the commits of the life but for those up to the horizon, and the manifest the other numbers above it.
+abbrev pub StepsKeepRecords : Type 0
+StepsKeepRecords =
+    (since : Stored) (found : Found) (old new : Core) (call : Call) (answer : Answer ℕ)
+    → LoadsInOrder found → IsRecorded since old → Step found old call answer new
+    → IsRecorded (stored_by since found call answer) new
+
+abbrev pub RunsAreRecorded : Type 0
+RunsAreRecorded =
+    (stored : Stored) (entries : List Entry) (new : Core)
+    → IsInOrder stored → AllByRecursion (λ entry. LoadsInOrder entry.found) entries → Run (life stored) entries new
+    → IsRecorded (stored_in stored entries) new

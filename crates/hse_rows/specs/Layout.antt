@@ -87,9 +87,6 @@ abbrev pub ingest_sets : ℕ → List Store → List Numbered → List NewSet
 ingest_sets slot_size stores commits =
     flat_map (λ store. new_sets store.id [] (set_of slot_size (newest (rows_of store.id commits)))) stores
 
-abbrev pub ingested : ℕ → Layout → List Store → List Numbered → Layout
-ingested slot_size layout stores commits = in_fronts layout (ingest_sets slot_size stores commits)
-
 -- ---- runs: as many adjacent sets of a node, with this many older ones behind
 
 abbrev pub run_in : List RowsInBlocks → ℕ → ℕ → List RowsInBlocks
@@ -125,19 +122,6 @@ compaction_of slot_size run last = set_of slot_size (merged last (rows_of_run ru
 abbrev pub key_compaction_of : ℕ → List RowsInBlocks → Bool → List RowsInBlocks
 key_compaction_of slot_size run last = with_values_of run (compaction_of slot_size run last)
 
--- each in the run's place
-abbrev pub compacted : ℕ → Layout → ℕ → List ℕ → ℕ → ℕ → Bool → Layout
-compacted slot_size layout store path older len last =
-    with_sets layout store path
-    (in_place_of_run (sets_at layout store path) older len
-    (compaction_of slot_size (run_in (sets_at layout store path) older len) last))
-
-abbrev pub keys_compacted : ℕ → Layout → ℕ → List ℕ → ℕ → ℕ → Bool → Layout
-keys_compacted slot_size layout store path older len last =
-    with_sets layout store path
-    (in_place_of_run (sets_at layout store path) older len
-    (key_compaction_of slot_size (run_in (sets_at layout store path) older len) last))
-
 -- ---- spills
 
 abbrev pub children : List ℕ
@@ -158,9 +142,3 @@ spill_of slot_size store path prefix_length run =
     new_sets store (path ++ child ∷ [])
     (set_of slot_size (part_for (length path) prefix_length child (merged false (rows_of_run run)))))
     children
-
--- one set at the front of each, and the run leaves
-abbrev pub spilled : ℕ → Layout → ℕ → List ℕ → ℕ → ℕ → Layout
-spilled slot_size layout store path prefix_length len =
-    in_fronts (with_sets layout store path (in_place_of_run (sets_at layout store path) 0 len []))
-    (spill_of slot_size store path prefix_length (run_in (sets_at layout store path) 0 len))

@@ -51,6 +51,7 @@ pub mod ScriptNames
 pub mod ScriptRefusal
 pub mod ScriptDone
 pub mod ScriptStep
+pub mod ScriptCalls
 pub mod ScriptLaws
 pub mod Sets
 pub mod Covering

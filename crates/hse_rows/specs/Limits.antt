@@ -1,12 +1,15 @@
 -- What keeps within the limits of a device and of the engine.
-use Rattle.std.specs.Prelude.{ℕ, ◌+◌, ◌≤◌, List, length}
+use Rattle.std.specs.Prelude.{ℕ, ◌+◌, ◌<◌, ◌≤◌, List, length}
+use Rattle.std.specs.List.{filter, AllByRecursion}
 use Rattle.hse_rows.specs.State.{State}
 use Rattle.hse_rows.specs.History.{Event, folded, last_number}
+use Rattle.hse_rows.specs.Transaction.{Transaction, is_active}
 use Rattle.hse_rows.specs.Sizes.{Sizes}
-use Rattle.hse_rows.specs.Log.{LogState, most_frozen, charge_of_active, room_of}
+use Rattle.hse_rows.specs.Log.{LogState, IsWithinLayers, charge_of_active, room_of}
 use Rattle.hse_rows.specs.ManifestRoom.{ManifestState, greatest_sequence}
+use Rattle.hse_rows.specs.Job.{Job}
 use Rattle.hse_rows.specs.Turn.{Plan, settles, enters, removes, installs, Turn, home, taken, ran}
-use Rattle.hse_rows.specs.Core.{Core, number_of, most_jobs, most_cursors, greatest_number}
+use Rattle.hse_rows.specs.Core.{Core, number_of, most_transactions, most_jobs, most_cursors, greatest_number}
 
 pub record HistoryFits (sizes : Sizes) (base : State) (events : List Event) : Type 0 where
   pub numbers : last_number base events ≤ greatest_number
@@ -15,7 +18,7 @@ pub record HistoryFits (sizes : Sizes) (base : State) (events : List Event) : Ty
 pub record LogFits (sizes : Sizes) (log : LogState) : Type 0 where
   -- the commits of the active layer have room in their segment
   pub room : charge_of_active log ≤ room_of sizes.segment_size
-  pub layers : length log.frozen ≤ most_frozen
+  pub layers : IsWithinLayers log
   -- the active segment's sequence
   pub segments : log.first_segment + length log.frozen ≤ greatest_sequence
 
@@ -23,6 +26,16 @@ pub record ManifestFits (sizes : Sizes) (manifest : ManifestState) : Type 0 wher
   -- the batches have room in their half
   pub used : manifest.used ≤ sizes.half_size
   pub sequence : manifest.sequence ≤ greatest_sequence
+
+pub record TransactionsFit (begun : List Transaction) : Type 0 where
+  -- the live ones
+  pub live : length (filter (λ transaction. is_active transaction.state) begun) ≤ most_transactions
+  pub begins : length begun ≤ greatest_number
+
+pub record JobsFit (jobs : List Job) (picked : ℕ) : Type 0 where
+  pub live : length jobs ≤ most_jobs
+  -- the id of each is less than the count of picks
+  pub ids : AllByRecursion (λ job. job.id < picked) jobs
 
 -- the manifest after a turn
 abbrev pub PlanFits : Sizes → Plan → Type 0
@@ -45,6 +58,7 @@ pub record IsWithinLimits (m : Core) : Type 0 where
   -- what is safe is between the base and the last number
   pub since_base : m.timeline.base.number ≤ m.safe
   pub until_now : m.safe ≤ number_of m
-  pub jobs : length m.jobs ≤ most_jobs
+  pub transactions : TransactionsFit m.timeline.begun
+  pub jobs : JobsFit m.jobs m.picked
   pub cursors : m.cursors ≤ most_cursors
   pub turn : TurnFits m.sizes m.safe (number_of m) m.turn

@@ -1,10 +1,13 @@
 -- What the log and the manifest have of a history: the commits, and the numbers of the creations and drops.
-use Rattle.std.specs.Prelude.{◌≡◌, ℕ, ◌+◌, ◌≤◌, List, [], ◌∷◌, ◌++◌}
-use Rattle.std.specs.List.{AllByRecursion}
+use Rattle.std.specs.Prelude.{◌≡◌, ℕ, ◌+◌, ◌<◌, ◌≤◌, nat_lt, Bool, true, false, List, [], ◌∷◌, ◌++◌, Option}
+use Rattle.std.specs.List.{AllByRecursion, filter}
 use Rattle.hse_rows.specs.State.{State}
 use Rattle.hse_rows.specs.History.{Event, commits, creates, drops, last_number}
 use Rattle.hse_rows.specs.Log.{Numbered, Frozen, LogState}
-use Rattle.hse_rows.specs.Core.{Core}
+use Rattle.hse_rows.specs.Job.{ingesting, on_run}
+use Rattle.hse_rows.specs.Turn.{Plan, settles, enters, removes, installs, Turn, home, taken, ran}
+use Rattle.hse_rows.specs.Core.{Core, Stored, oldest}
+use Rattle.hse_rows.specs.ManifestEntry.{taken_above}
 
 -- the commits of these events, of which the first has this number
 abbrev pub commits_in : ℕ → List Event → List Numbered
@@ -51,5 +54,60 @@ pub record Records (before : List Numbered) (log : LogState) (base : State) (eve
   pub layers : AreLayers log.horizon (last_number base events) log.frozen
   pub active : CommitsUpTo (last_number base events) log.active
 
-abbrev pub IsRecorded : List Numbered → Core → Type 0
-IsRecorded before m = Records before m.log m.timeline.base m.timeline.history
+-- ---- what the manifest keeps of them
+
+abbrev pub above : ℕ → List ℕ → List ℕ
+above horizon numbers = filter (λ number. nat_lt horizon number) numbers
+
+-- the number of a creation or drop whose turn is out
+abbrev pub due_by : ℕ → Plan → List ℕ
+due_by number settles = []
+due_by number (enters manifest) = number ∷ []
+due_by number (removes id manifest) = number ∷ []
+due_by number (installs id work new manifest) = []
+
+abbrev pub due : Turn → List ℕ
+due home = []
+due (taken turn) = due_by turn.number turn.plan
+due (ran turn has_failed) = due_by turn.number turn.plan
+
+-- The manifest after a turn has its number too. After an ingest it has those above the new horizon.
+abbrev pub PlanRecords : Option Frozen → List ℕ → ℕ → Plan → Type 0
+PlanRecords oldest numbers number settles = Unit {0}
+PlanRecords oldest numbers number (enters manifest) = manifest.taken ≡ numbers ++ number ∷ []
+PlanRecords oldest numbers number (removes id manifest) = manifest.taken ≡ numbers ++ number ∷ []
+PlanRecords oldest numbers number (installs id ingesting new manifest) = manifest.taken ≡ taken_above oldest numbers
+PlanRecords oldest numbers number (installs id (on_run run) new manifest) = manifest.taken ≡ numbers
+
+abbrev pub TurnRecords : Option Frozen → List ℕ → Turn → Type 0
+TurnRecords oldest numbers home = Unit {0}
+TurnRecords oldest numbers (taken turn) = PlanRecords oldest numbers turn.number turn.plan
+TurnRecords oldest numbers (ran turn has_failed) = PlanRecords oldest numbers turn.number turn.plan
+
+-- a turn whose device calls failed broke the engine
+abbrev pub BreaksBy : Bool → Turn → Type 0
+BreaksBy is_broken home = Unit {0}
+BreaksBy is_broken (taken turn) = Unit {0}
+BreaksBy is_broken (ran turn false) = Unit {0}
+BreaksBy is_broken (ran turn true) = is_broken ≡ true
+
+-- ---- both
+
+-- What log and manifest have in a life that began at what the device stored.
+pub record IsRecorded (since : Stored) (m : Core) : Type 0 where
+  pub base : m.timeline.base ≡ since.base
+  pub log : Records (commits_of since.log) m.log m.timeline.base m.timeline.history
+  -- While no device call failed, the manifest has the numbers of the creations and drops above the horizon, but for one
+  -- whose turn is out.
+  pub manifest :
+      m.is_broken ≡ false
+      → m.manifest.taken ++ due m.turn
+      ≡ above m.log.horizon (since.manifest.taken ++ taken_in (m.timeline.base.number + 1) m.timeline.history)
+  pub turn : TurnRecords (oldest m.log.frozen) m.manifest.taken m.turn
+  pub broken : BreaksBy m.is_broken m.turn
+
+-- A device stores layers and numbers in order.
+pub record IsInOrder (stored : Stored) : Type 0 where
+  pub layers : AreLayers stored.log.horizon stored.base.number stored.log.frozen
+  pub active : CommitsUpTo stored.base.number stored.log.active
+  pub taken : AllByRecursion (λ number. stored.log.horizon < number) stored.manifest.taken

@@ -1,5 +1,5 @@
 -- What a line is answered that nothing refuses, and where it leads.
-use Rattle.std.specs.Prelude.{ℕ, List, [], ◌∷◌, ◌++◌, Option, Some, None}
+use Rattle.std.specs.Prelude.{ℕ, ◌+◌, if◌then◌else◌, List, [], ◌∷◌, ◌++◌, Option, Some, None, is_some}
 use Rattle.hse_rows.specs.State.{State, Store, store_named, store_of}
 use Rattle.hse_rows.specs.Transaction.{read_of}
 use Rattle.hse_rows.specs.Timeline.{transaction_of, for_some}
@@ -16,7 +16,7 @@ use Rattle.hse_rows.specs.Schedule.{next_wish}
 use Rattle.hse_rows.specs.ScriptLines.{Who, nobody, someone, Line, begin, write_by, get, commit, abort, list_stores, tree, info, open_cursor, seek, seek_range, read, update, close_cursor, pick, build, drop_job, next_job, take, take_install, write_turn, end_turn, turn, job, auto, reopen, silent, bad}
 use Rattle.hse_rows.specs.Script.{Script, order_of, job_named, cursor_named, with_cursor, without_cursor}
 use Rattle.hse_rows.specs.ScriptNames.{answer_named}
-use Rattle.hse_rows.specs.ScriptRefusal.{with_built}
+use Rattle.hse_rows.specs.ScriptRefusal.{asked, with_built}
 
 -- ---- the phases of a turn in a row
 
@@ -162,6 +162,14 @@ job_done s wish = with_picked_name (with_core s (turned (with_built s.core wish)
 abbrev pub job_failed : Script → JobWish → Script
 job_failed s wish = with_picked_name (with_core s (turn_failed (with_built s.core wish) (install s.core.picked))) []
 
+-- a job that the line picked is gone again: its id and its place among the names stay used
+abbrev pub once_picked : Script → Script
+once_picked s = with_picked_name (with_core s (record s.core { picked = s.core.picked + 1 })) []
+
+-- a job that is refused, by its pick or later
+abbrev pub job_refused : Script → JobWish → Script
+job_refused s wish = if is_some (asked s (call.pick wish)) then s else once_picked s
+
 -- that nothing refuses
 abbrev pub done : Script → Line → Script
 done s (begin name) = record (called s call.begin) { begun_names = s.begun_names ++ name ∷ [] }
@@ -194,9 +202,11 @@ done s reopen = s
 done s silent = s
 done s bad = s
 
--- A refusal changes nothing, but that an end gives a turn back whose device calls failed.
+-- A refusal changes nothing, but that an end gives a turn back whose device calls failed, and that a job was picked.
 abbrev pub refused_to : Script → Line → Script
 refused_to s end_turn = with_core s (core.refused_to s.core call.end_turn)
+refused_to s (job wish) = job_refused s wish
+refused_to s auto = for_some (next_wish s.core) s (job_refused s)
 refused_to s line = s
 
 -- a device call failed

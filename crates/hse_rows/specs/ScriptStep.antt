@@ -1,5 +1,6 @@
 -- The step of the script machine: what a line may be answered, and where that leads.
-use Rattle.std.specs.Prelude.{◌≡◌, ℕ, List, Option, Some, None}
+use Rattle.std.specs.Prelude.{◌≡◌, ◌⊎◌, ℕ, List, Option, Some, None}
+use Rattle.hse_rows.specs.Timeline.{for_some}
 use Rattle.hse_rows.specs.Job.{JobWish}
 use Rattle.hse_rows.specs.Turn.{Calls, install}
 use Rattle.hse_rows.specs.Replies.{Refusal, Answer, silence, ok, refused, busy, not_formed, other_version, no_memory, device_fault}
@@ -11,7 +12,7 @@ use Rattle.hse_rows.specs.Schedule.{next_wish}
 use Rattle.hse_rows.specs.ScriptLines.{Line, turn, job, auto, write_turn, reopen, silent}
 use Rattle.hse_rows.specs.Script.{Script, begins_with}
 use Rattle.hse_rows.specs.ScriptRefusal.{refusal, with_built}
-use Rattle.hse_rows.specs.ScriptDone.{reply, done, refused_to, failing}
+use Rattle.hse_rows.specs.ScriptDone.{reply, done, refused_to, job_refused, failing}
 
 -- a job whose install calls the device
 abbrev pub CallsFor : Core → JobWish → Type 0
@@ -39,13 +40,19 @@ Reopens (has_version version) old (refused (other_version told)) new = (told ≡
 Reopens found old device_fault new = new ≡ failing old reopen
 Reopens found old answer new = ⊥
 
+-- Want of memory changes nothing, but that a job may have been picked and is gone again.
+abbrev pub LacksMemory : Script → Line → Script → Type 0
+LacksMemory old (job wish) new = (new ≡ old) ⊎ (new ≡ job_refused old wish)
+LacksMemory old auto new = (new ≡ old) ⊎ (new ≡ for_some (next_wish old.core) old (job_refused old))
+LacksMemory old line new = new ≡ old
+
 -- From old the line may get this answer and lead to new, where an opening of the device would find this.
 abbrev pub Step : Found → Script → Line → Answer (List ℕ) → Script → Type 0
 -- a silent line has no reply and changes nothing
 Step found old silent silence new = new ≡ old
 Step found old silent answer new = ⊥
--- any other line may be refused memory, and then changes nothing
-Step found old line no_memory new = new ≡ old
+-- any other line may be refused memory
+Step found old line no_memory new = LacksMemory old line new
 Step found old reopen (refused (busy kind)) new = (refusal old reopen ≡ Some (busy kind)) × (new ≡ old)
 Step found old reopen answer new = (refusal old reopen ≡ None) × Reopens found old answer new
 -- a line that calls the device may meet a fault
@@ -55,7 +62,7 @@ Step found old line (refused reason) new = (refusal old line ≡ Some reason) ×
 -- what nothing refuses is answered and done
 Step found old line answer new = (refusal old line ≡ None) × (answer ≡ reply old line) × (new ≡ done old line)
 
--- ---- the answer with memory enough and a device that does not fail, and where an answer leads
+-- ---- the answer with memory enough and a device that does not fail, and where an answer leads but for want of memory
 
 abbrev pub opening_answer : Found → Answer (List ℕ)
 opening_answer (loads stored) = ok stored.base.number

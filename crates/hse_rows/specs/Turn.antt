@@ -24,7 +24,7 @@ pub data TurnWish : Type 0 where
 
 -- What the end of a turn changes beside the device side.
 pub data Plan : Type 0 where
-  -- all up to its number is safe
+  -- all up to the turn's number is safe
   settles : Plan
   -- and the manifest has one entry more
   enters : ManifestState → Plan
@@ -35,7 +35,7 @@ pub data Plan : Type 0 where
 
 pub record TakenTurn : Type 0 where
   pub kind : TurnKind
-  -- the last number that it makes safe
+  -- All up to it is safe once the turn ended: the last number, but an install makes nothing safe.
   pub number : ℕ
   pub plan : Plan
   -- it calls the device: a sync does where commits wait for it

@@ -5,7 +5,8 @@ ghost use Rattle.hse_rows.specs.CoreLaws.{OthersKeepTimelines, OthersKeepCursors
 ghost use Rattle.hse_rows.specs.CoreLaws.{LivesStand, StepsKeepStanding};
 ghost use Rattle.hse_rows.specs.CoreLaws.{AnswersLeadOneWay, RefusalsChangeNothing};
 ghost use Rattle.hse_rows.specs.CoreLaws.{CallsAreAnswered, CallsHaveOneAnswer};
-ghost use Rattle.hse_rows.specs.CoreLaws.{StepsKeepLimits, StepsRecordCommits};
+ghost use Rattle.hse_rows.specs.CoreLaws.{StepsKeepLimits, LivesBeginRecorded};
+ghost use Rattle.hse_rows.specs.CoreLaws.{StepsKeepRecords, RunsAreRecorded};
 
 /// Snapshot isolation. In every run no two transactions that each began before the other's commit
 /// both committed overlapping writes, and a commit is never canceled.
@@ -43,15 +44,20 @@ pub fn calls_have_one_answer()
     ensures one { CallsHaveOneAnswer }
 {}
 
-/// The log's commits have room in their segment and at most three layers are frozen, the manifest's
-/// batches have room in their half, no more slots are used than there are, numbers and counts are
-/// within their limits, and what is safe is between the base and the last number.
+/// Each call keeps within the limits, where a reopening loads what is within them: the log's commits
+/// have room in their segment and at most three layers are frozen, the manifest's batches have room in
+/// their half, no more slots are used than there are, numbers, sequences and counts of stores, live
+/// transactions, begins, jobs and cursors are within their limits, the id of each job is less than the
+/// count of picks, and what is safe is between the base and the last number.
 pub fn calls_keep_limits()
     ensures { StepsKeepLimits }
 {}
 
-/// Until a reopening, each event but creations and drops stands in the log, or its number is up to
-/// the horizon.
-pub fn calls_record_commits()
-    ensures { StepsRecordCommits }
+/// In every run each commit since the life began stands in the log, with those that the device stored
+/// then, or its number is up to the horizon. While no device call failed, the manifest has the numbers
+/// of the creations and drops above the horizon, but for one whose turn is out. A life begins so.
+pub fn calls_are_recorded()
+    ensures lives { LivesBeginRecorded }
+    ensures steps { StepsKeepRecords }
+    ensures runs { RunsAreRecorded }
 {}

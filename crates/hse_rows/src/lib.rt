@@ -22,7 +22,7 @@ mod write_set;
 
 pub use change::{Change, ChangeRef};
 pub use core_laws::{
-    answers_lead_one_way, calls_have_one_answer, calls_keep_limits, calls_record_commits,
+    answers_lead_one_way, calls_are_recorded, calls_have_one_answer, calls_keep_limits,
     others_keep_timelines, runs_are_isolated, timelines_stand,
 };
 pub use edge::Edge;
@@ -38,7 +38,10 @@ pub use normal_form::{charges_grow_by_the_change_at_most, normal_forms_are_in_or
 pub use prefix::{Prefix, PrefixFault};
 pub use row::{Row, RowRef};
 pub use row_set::{RowSet, Shared};
-pub use script_laws::{scripts_are_isolated, turns_are_one_step};
+pub use script_laws::{
+    lines_are_calls, lines_have_one_answer, lines_lead_one_way, other_lines_keep_timelines,
+    scripts_are_isolated, scripts_are_sound, turns_are_one_step,
+};
 pub use store::{Mode, StoreId};
 pub use value::{Value, ValueFault};
 pub use write::Write;

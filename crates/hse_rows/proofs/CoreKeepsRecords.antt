@@ -1,0 +1,194 @@
+-- Log and manifest have what happened, in every run.
+use Rattle.std.specs.List.{AllByRecursion}
+use Rattle.std.proofs.Common.{◌≡◌, ℕ, ◌+◌, List, [], ◌∷◌, Option, Some, None, refl, sym, ◌∙◌, ap, subst, arith}
+use Rattle.hse_rows.specs.declared.write.Write.{Write}
+use Rattle.hse_rows.specs.State.{store_named}
+use Rattle.hse_rows.specs.Transaction.{Transaction}
+use Rattle.hse_rows.specs.Moves.{Move}
+use Rattle.hse_rows.specs.Moves as move
+use Rattle.hse_rows.specs.Timeline.{Timeline, transaction_of, snapshot_of, for_some, committing, moved}
+use Rattle.hse_rows.specs.Job.{job_of}
+use Rattle.hse_rows.specs.Turn.{TurnWish, sync, freeze, install, create, drop}
+use Rattle.hse_rows.specs.Replies as replies
+use Rattle.hse_rows.specs.Replies.{Answer}
+use Rattle.hse_rows.specs.Calls.{outside, inside, Call, begin, write_by, get, commit, abort, list_stores, tree, info, take_place, give_place, pick, build, drop_job, next_job, take, write_turn, end_turn, reopen}
+use Rattle.hse_rows.specs.Core.{Core, Stored, life, now}
+use Rattle.hse_rows.specs.CoreRefusal.{refusal}
+use Rattle.hse_rows.specs.CoreDone.{done, refused_to, failing, taking}
+use Rattle.hse_rows.specs.CoreStep.{Found, loads, breaks_off, has_version, Reopens, Step}
+use Rattle.hse_rows.specs.CoreLaws.{Entry, Run, stored_by, stored_in, LoadsInOrder}
+use Rattle.hse_rows.specs.Recorded.{above, AreLayers, CommitsUpTo, commits_of, IsRecorded, IsInOrder}
+use Rattle.hse_rows.proofs.CoreAnswers.{IsOther}
+use Rattle.hse_rows.proofs.CoreGoes.{done_keeps, refused_keeps, failing_keeps}
+use Rattle.hse_rows.proofs.CoreRecords.{none_added, InLog, done_recorded, refused_recorded}
+use Rattle.hse_rows.proofs.ManifestRecords.{all_above, InManifest, done_kept, refused_kept, failing_kept}
+
+-- ---- the base stays
+
+found_base : {X : Type 0} (m : Core) (it : Option X) (leads_to : X → Core) → ((x : X) → (leads_to x).timeline.base ≡ m.timeline.base)
+    → (for_some it m leads_to).timeline.base ≡ m.timeline.base
+found_base m None leads_to each = refl
+found_base m (Some x) leads_to each = each x
+
+transaction_base : (t : Timeline) (it : Option Transaction) (leads_to : Transaction → Timeline) → ((x : Transaction) → (leads_to x).base ≡ t.base)
+    → (for_some it t leads_to).base ≡ t.base
+transaction_base t None leads_to each = refl
+transaction_base t (Some x) leads_to each = each x
+
+committing_base : (t : Timeline) (order : ℕ) (transaction : Transaction) (writes : List Write) → (committing t order transaction writes).base ≡ t.base
+committing_base t order transaction [] = refl
+committing_base t order transaction (write ∷ writes) = refl
+
+moved_base : (t : Timeline) (one : Move) → (moved t one).base ≡ t.base
+moved_base t move.begin = refl
+moved_base t (move.write_in order write) = transaction_base t (transaction_of t order) _ (λ x. refl)
+moved_base t (move.write_out write) = refl
+moved_base t (move.commit order) = transaction_base t (transaction_of t order) _ (λ x. committing_base t order x x.writes)
+moved_base t (move.abort order) = transaction_base t (transaction_of t order) _ (λ x. refl)
+moved_base t (move.create name mode prefix) = refl
+moved_base t (move.remove id) = refl
+
+taking_base : (m : Core) (wish : TurnWish) → (taking m wish).timeline.base ≡ m.timeline.base
+taking_base m sync = refl
+taking_base m freeze = refl
+taking_base m (install id) = found_base m (job_of m.jobs id) _ (λ job. refl)
+taking_base m (create name mode prefix) = refl
+taking_base m (drop name) = found_base m (store_named (now m) name) _ (λ store. refl)
+
+done_base : (m : Core) (call : Call) → (done m call).timeline.base ≡ m.timeline.base
+done_base m begin = refl
+done_base m (write_by outside name change) = found_base m (store_named (now m) name) _ (λ store. refl)
+done_base m (write_by (inside order) name change) =
+    found_base m (transaction_of m.timeline order) _ (λ transaction.
+    found_base m (store_named (snapshot_of m.timeline transaction) name) _ (λ store. moved_base m.timeline (move.write_in order _)))
+done_base m (commit order) = found_base m (transaction_of m.timeline order) _ (λ transaction. moved_base m.timeline (move.commit order))
+done_base m (abort order) = moved_base m.timeline (move.abort order)
+done_base m (take wish) = taking_base m wish
+done_base m reopen = refl
+done_base m (get actor name key) = refl
+done_base m list_stores = refl
+done_base m (tree name) = refl
+done_base m info = refl
+done_base m take_place = refl
+done_base m give_place = refl
+done_base m (pick wish) = ap (λ (t : Timeline). t.base) (done_keeps m (pick wish) (λ e. e))
+done_base m (build id) = ap (λ (t : Timeline). t.base) (done_keeps m (build id) (λ e. e))
+done_base m (drop_job id) = refl
+done_base m next_job = refl
+done_base m write_turn = refl
+done_base m end_turn = ap (λ (t : Timeline). t.base) (done_keeps m end_turn (λ e. e))
+
+-- ---- both halves
+
+module _ (since : Stored) where
+  in_manifest : (m : Core) → IsRecorded since m → InManifest since.manifest.taken m
+  in_manifest m good = record { manifest = good.manifest; turn = good.turn; broken = good.broken }
+
+  both : (m : Core) → m.timeline.base ≡ since.base → InLog (commits_of since.log) m → InManifest since.manifest.taken m → IsRecorded since m
+  both m base log rest = record { base = base; log = log; manifest = rest.manifest; turn = rest.turn; broken = rest.broken }
+
+  module _ (m : Core) (good : IsRecorded since m) where
+    done_is_recorded : (call : Call) → refusal m call ≡ None → IsRecorded since (done m call)
+    done_is_recorded call none =
+        both (done m call) (done_base m call ∙ good.base) (done_recorded (commits_of since.log) m good.log call)
+        (done_kept since.manifest.taken m (in_manifest m good) good.log.layers call none)
+
+    refused_is_recorded : (call : Call) → IsRecorded since (refused_to m call)
+    refused_is_recorded call =
+        both (refused_to m call) (ap (λ (t : Timeline). t.base) (refused_keeps m call).timeline ∙ good.base)
+        (refused_recorded (commits_of since.log) m good.log call)
+        (refused_kept since.manifest.taken m (in_manifest m good) call)
+
+    failing_log : (call : Call) → InLog (commits_of since.log) (failing m call)
+    failing_log write_turn = good.log
+    failing_log call = good.log
+
+    pub failing_is_recorded : (call : Call) → IsRecorded since (failing m call)
+    failing_is_recorded call =
+        both (failing m call) (ap (λ (t : Timeline). t.base) (failing_keeps m call).timeline ∙ good.base) (failing_log call)
+        (failing_kept since.manifest.taken m (in_manifest m good) call)
+
+-- ---- a life
+
+none_since : (number : ℕ) → number ≡ number + 0
+none_since number = omega arith
+
+pub life_recorded : (stored : Stored) → IsInOrder stored → IsRecorded stored (life stored)
+life_recorded stored good = record {
+  base = refl;
+  log = record {
+    gone = [];
+    all = sym (none_added (commits_of stored.log));
+    below = tt;
+    layers = subst (λ (n : ℕ). AreLayers stored.log.horizon n stored.log.frozen) (none_since stored.base.number) good.layers;
+    active = subst (λ (n : ℕ). CommitsUpTo n stored.log.active) (none_since stored.base.number) good.active;
+  };
+  manifest = λ whole.
+      none_added stored.manifest.taken
+      ∙ sym (ap (above stored.log.horizon) (none_added stored.manifest.taken) ∙ all_above stored.log.horizon stored.manifest.taken good.taken);
+  turn = tt;
+  broken = tt;
+}
+
+-- ---- steps
+
+pub same_record : (since : Stored) (one other : Core) → other ≡ one → IsRecorded since one → IsRecorded since other
+same_record since one other is good = subst (IsRecorded since) (sym is) good
+
+reopening_records : (since : Stored) (found : Found) (old new : Core) (answer : Answer ℕ) → LoadsInOrder found → IsRecorded since old
+    → Reopens found old answer new → IsRecorded (stored_by since found reopen answer) new
+reopening_records since (loads stored) old new (replies.ok number) ordered good step = same_record stored (life stored) new step.1 (life_recorded stored ordered)
+reopening_records since (loads stored) old new replies.device_fault ordered good step =
+    same_record since (failing old reopen) new step (failing_is_recorded since old good reopen)
+reopening_records since (loads stored) old new answer ordered good step = absurd step
+reopening_records since (breaks_off part place) old new (replies.refused (replies.not_formed at_part at_place)) ordered good step = same_record since old new step.2 good
+reopening_records since (breaks_off part place) old new replies.device_fault ordered good step =
+    same_record since (failing old reopen) new step (failing_is_recorded since old good reopen)
+reopening_records since (breaks_off part place) old new answer ordered good step = absurd step
+reopening_records since (has_version version) old new (replies.refused (replies.other_version told)) ordered good step = same_record since old new step.1 good
+reopening_records since (has_version version) old new replies.device_fault ordered good step =
+    same_record since (failing old reopen) new step (failing_is_recorded since old good reopen)
+reopening_records since (has_version version) old new answer ordered good step = absurd step
+
+-- a call that loads nothing
+nothing_loaded : (since : Stored) (found : Found) (call : Call) (answer : Answer ℕ) → IsOther call → stored_by since found call answer ≡ since
+nothing_loaded since (loads stored) reopen answer other = absurd other
+nothing_loaded since (loads stored) call answer other = refl
+nothing_loaded since (breaks_off part place) call answer other = refl
+nothing_loaded since (has_version version) call answer other = refl
+
+pub other_records : (since : Stored) (found : Found) (old new : Core) (call : Call) (answer : Answer ℕ) → IsOther call → IsRecorded since old
+    → Step found old call answer new → IsRecorded since new
+other_records since found old new call replies.no_memory other good step = same_record since old new step good
+other_records since found old new reopen answer other good step = absurd other
+other_records since found old new write_turn replies.device_fault other good step =
+    same_record since (failing old write_turn) new step.1 (failing_is_recorded since old good write_turn)
+other_records since found old new call replies.device_fault other good step = absurd step
+other_records since found old new call (replies.refused reason) other good step =
+    same_record since (refused_to old call) new step.1 (refused_is_recorded since old good call)
+other_records since found old new call answer other good step = same_record since (done old call) new step.2 (done_is_recorded since old good call step.0)
+
+pub step_records : (since : Stored) (found : Found) (old new : Core) (call : Call) (answer : Answer ℕ) → LoadsInOrder found → IsRecorded since old
+    → Step found old call answer new → IsRecorded (stored_by since found call answer) new
+step_records since (loads stored) old new reopen replies.no_memory ordered good step = same_record since old new step good
+step_records since (breaks_off part place) old new reopen replies.no_memory ordered good step = same_record since old new step good
+step_records since (has_version version) old new reopen replies.no_memory ordered good step = same_record since old new step good
+step_records since (loads stored) old new reopen (replies.refused (replies.busy kind)) ordered good step = same_record since old new step.1 good
+step_records since (breaks_off part place) old new reopen (replies.refused (replies.busy kind)) ordered good step = same_record since old new step.1 good
+step_records since (has_version version) old new reopen (replies.refused (replies.busy kind)) ordered good step = same_record since old new step.1 good
+step_records since found old new reopen answer ordered good step = reopening_records since found old new answer ordered good step.1
+step_records since found old new call answer ordered good step =
+    subst (λ (s : Stored). IsRecorded s new) (sym (nothing_loaded since found call answer tt)) (other_records since found old new call answer tt good step)
+
+-- ---- runs
+
+run_records : (since : Stored) (old : Core) (entries : List Entry) (new : Core) → AllByRecursion (λ entry. LoadsInOrder entry.found) entries
+    → IsRecorded since old → Run old entries new → IsRecorded (stored_in since entries) new
+run_records since old [] new ordered good run = same_record since old new run good
+run_records since old (entry ∷ entries) new ordered good run =
+    run_records (stored_by since entry.found entry.call entry.answer) run.0 entries new ordered.1
+    (step_records since entry.found old run.0 entry.call entry.answer ordered.0 good run.1) run.2
+
+pub runs_recorded : (stored : Stored) (entries : List Entry) (new : Core) → IsInOrder stored → AllByRecursion (λ entry. LoadsInOrder entry.found) entries
+    → Run (life stored) entries new → IsRecorded (stored_in stored entries) new
+runs_recorded stored entries new good ordered run = run_records stored (life stored) entries new ordered (life_recorded stored good) run

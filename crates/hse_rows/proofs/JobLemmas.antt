@@ -1,0 +1,132 @@
+-- A job that was just picked, among those with ids below it.
+use Rattle.std.specs.Prelude.{◌==◌}
+use Rattle.std.specs.List.{AllByRecursion, filter}
+use Rattle.std.proofs.Common.{◌≡◌, ℕ, ◌+◌, ◌<◌, Bool, true, false, not, cond, List, [], ◌∷◌, ◌++◌, Option, Some, None, refl, sym, ◌∙◌, ap, subst, arith}
+use Rattle.std.proofs.lemmas.Bool.Decides.{nat_tests}
+use Rattle.hse_rows.specs.State.{store_named}
+use Rattle.hse_rows.specs.Timeline.{for_some}
+use Rattle.hse_rows.specs.Layout.{NewSet}
+use Rattle.hse_rows.specs.Job.{JobWish, ingest, of_run, Work, on_run, Job, JobState, picked, built, is_picked, is_installing, job_of}
+use Rattle.hse_rows.specs.Replies as replies
+use Rattle.hse_rows.specs.Calls.{build, drop_job}
+use Rattle.hse_rows.specs.Core.{Core, JobsAreNumbered, now}
+use Rattle.hse_rows.specs.CoreRefusal.{refusal, refuse, pick_refusal, with_job}
+use Rattle.hse_rows.specs.CoreReply.{sets_for}
+use Rattle.hse_rows.specs.CoreDone.{done, without_job, with_state, with_picked, picking, building, run_of}
+use Rattle.hse_rows.proofs.PassLemmas.{passes, found}
+
+abbrev pub AreBelow : ℕ → List Job → Type 0
+AreBelow number jobs = AllByRecursion (λ job. job.id < number) jobs
+
+other_id : (low high : ℕ) → low < high → (low == high) ≡ false
+other_id low high less = grind (arith, nat_tests)
+
+own_id : (id : ℕ) → (id == id) ≡ true
+own_id id = grind (arith, nat_tests)
+
+pub last_found : (jobs : List Job) (last : Job) → AreBelow last.id jobs → job_of (jobs ++ last ∷ []) last.id ≡ Some last
+last_found [] last below = ap (λ (b : Bool). cond b (Some last) None) (own_id last.id)
+last_found (job ∷ jobs) last below =
+    ap (λ (b : Bool). cond b (Some job) (job_of (jobs ++ last ∷ []) last.id)) (other_id job.id last.id below.0)
+    ∙ last_found jobs last below.1
+
+pub last_led : (jobs : List Job) (last : Job) (state : JobState) (sets : List NewSet) → AreBelow last.id jobs
+    → with_state (jobs ++ last ∷ []) last.id state sets ≡ jobs ++ record last { state = state; sets = sets } ∷ []
+last_led [] last state sets below =
+    ap (λ (b : Bool). cond b (record last { state = state; sets = sets }) last ∷ []) (own_id last.id)
+last_led (job ∷ jobs) last state sets below =
+    ap (λ (b : Bool). cond b (record job { state = state; sets = sets }) job ∷ with_state (jobs ++ last ∷ []) last.id state sets)
+    (other_id job.id last.id below.0)
+    ∙ ap (λ (l : List Job). job ∷ l) (last_led jobs last state sets below.1)
+
+pub last_gone : (jobs : List Job) (last : Job) → AreBelow last.id jobs → without_job (jobs ++ last ∷ []) last.id ≡ jobs
+last_gone [] last below = ap (λ (b : Bool). cond (not b) (last ∷ []) []) (own_id last.id)
+last_gone (job ∷ jobs) last below =
+    ap (λ (b : Bool). cond (not b) (job ∷ without_job (jobs ++ last ∷ []) last.id) (without_job (jobs ++ last ∷ []) last.id))
+    (other_id job.id last.id below.0)
+    ∙ ap (λ (l : List Job). job ∷ l) (last_gone jobs last below.1)
+
+-- ---- ids stay below
+
+pub joined_below : (number : ℕ) (jobs : List Job) (last : Job) → AreBelow number jobs → last.id < number → AreBelow number (jobs ++ last ∷ [])
+joined_below number [] last below less = (less, tt)
+joined_below number (job ∷ jobs) last below less = (below.0, joined_below number jobs last below.1 less)
+
+pub further_below : (low high : ℕ) (jobs : List Job) → low < high → AreBelow low jobs → AreBelow high jobs
+further_below low high [] more below = tt
+further_below low high (job ∷ jobs) more below =
+    let here : job.id < low = below.0 in
+    let there : job.id < high = omega (arith, here, more) in
+    (there, further_below low high jobs more below.1)
+
+pub led_below : (number id : ℕ) (state : JobState) (sets : List NewSet) (jobs : List Job) → AreBelow number jobs
+    → AreBelow number (with_state jobs id state sets)
+led_below number id state sets [] below = tt
+led_below number id state sets (job ∷ jobs) below = (by (job.id == id), led_below number id state sets jobs below.1)
+  where
+    by : (b : Bool) → (cond b (record job { state = state; sets = sets }) job).id < number
+    by true = below.0
+    by false = below.0
+
+pub fewer_below : (number : ℕ) (p : Job → Bool) (jobs : List Job) → AreBelow number jobs → AreBelow number (filter p jobs)
+fewer_below number p [] below = tt
+fewer_below number p (job ∷ jobs) below = by (p job) (fewer_below number p jobs below.1)
+  where
+    by : (b : Bool) → AreBelow number (filter p jobs) → AreBelow number (cond b (job ∷ filter p jobs) (filter p jobs))
+    by true rest = (below.0, rest)
+    by false rest = rest
+
+-- ---- a pick
+
+-- a pick that nothing refuses is of some work
+pub picks : (m : Core) (wish : JobWish) → pick_refusal m wish ≡ None → (work : Work) × (picking m wish ≡ with_picked m work) × (m.is_broken ≡ false)
+picks m ingest none = (_, refl, (passes m.is_broken replies.broken _ none).0)
+picks m (of_run kind name path from len) none =
+    found (λ c. (work : Work) × (c ≡ with_picked m work) × (m.is_broken ≡ false)) (store_named (now m) name) replies.no_store _ m
+    (λ store. with_picked m (on_run (run_of m kind store path from len)))
+    (λ store is none. (_, refl, (passes m.is_broken replies.broken _ none).0)) none
+
+-- and adds a job to those that are there
+module _ (m : Core) (numbered : JobsAreNumbered m) (work : Work) where
+  abbrev pub new_job : Job
+  new_job = record { id = m.picked; work = work; state = picked; sets = [] }
+
+  abbrev pub built_job : Job
+  built_job = record { id = m.picked; work = work; state = built; sets = sets_for (with_picked m work) work }
+
+  -- the core with it when it is built
+  abbrev pub with_built_job : Core
+  with_built_job = record m { jobs = m.jobs ++ built_job ∷ []; picked = m.picked + 1 }
+
+  pub build_passes : m.is_broken ≡ false → refusal (with_picked m work) (build m.picked) ≡ None
+  build_passes unbroken =
+      ap (λ (j : Option Job). for_some j (Some replies.no_name) (λ job.
+      refuse (not (is_picked job.state)) (replies.job_state job.state) (refuse m.is_broken replies.broken None)))
+      (last_found m.jobs new_job numbered)
+      ∙ ap (λ (b : Bool). refuse b replies.broken None) unbroken
+
+  pub built_is : done (with_picked m work) (build m.picked) ≡ with_built_job
+  built_is =
+      ap (λ (j : Option Job). for_some j (with_picked m work) (building (with_picked m work))) (last_found m.jobs new_job numbered)
+      ∙ ap (λ (l : List Job). record m { jobs = l; picked = m.picked + 1 }) (last_led m.jobs new_job built built_job.sets numbered)
+
+  drop_passes : (last : Job) → last.id ≡ m.picked → is_installing last.state ≡ false
+      → refusal (record m { jobs = m.jobs ++ last ∷ []; picked = m.picked + 1 }) (drop_job m.picked) ≡ None
+  drop_passes last id_is rests =
+      ap (λ (n : ℕ). with_job (record m { jobs = m.jobs ++ last ∷ []; picked = m.picked + 1 }) n (λ state. not (is_installing state)) (λ job. None)) (sym id_is)
+      ∙ ap (λ (j : Option Job). for_some j (Some replies.no_name) (λ job.
+      refuse (not (not (is_installing job.state))) (replies.job_state job.state) None))
+      (last_found m.jobs last (subst (λ (n : ℕ). AreBelow n m.jobs) (sym id_is) numbered))
+      ∙ ap (λ (b : Bool). refuse (not (not b)) (replies.job_state last.state) None) rests
+
+  pub picked_drops : refusal (with_picked m work) (drop_job m.picked) ≡ None
+  picked_drops = drop_passes new_job refl refl
+
+  pub built_drops : refusal with_built_job (drop_job m.picked) ≡ None
+  built_drops = drop_passes built_job refl refl
+
+  pub picked_gone : done (with_picked m work) (drop_job m.picked) ≡ record m { picked = m.picked + 1 }
+  picked_gone = ap (λ (l : List Job). record m { jobs = l; picked = m.picked + 1 }) (last_gone m.jobs new_job numbered)
+
+  pub built_gone : done with_built_job (drop_job m.picked) ≡ record m { picked = m.picked + 1 }
+  built_gone = ap (λ (l : List Job). record m { jobs = l; picked = m.picked + 1 }) (last_gone m.jobs built_job numbered)

@@ -1,0 +1,254 @@
+-- Each line has one answer but for want of memory and device faults, and an answer leads one way.
+use Rattle.std.proofs.Common.{◌≡◌, ◌≢◌, ◌⊎◌, inl, inr, ℕ, Bool, true, false, cond, List, Option, Some, None, is_some, refl, sym, ◌∙◌, ap}
+use Rattle.std.specs.FinMap as fin_map
+use Rattle.hse_rows.specs.State.{State, store_named}
+use Rattle.hse_rows.specs.Transaction.{read_of}
+use Rattle.hse_rows.specs.Timeline.{for_some, transaction_of}
+use Rattle.hse_rows.specs.Cursor.{Pair, read_by, sought, sought_range, found_by}
+use Rattle.hse_rows.specs.Job.{JobWish, job_of}
+use Rattle.hse_rows.specs.Turn.{TurnWish, Turn, home, taken, ran, install}
+use Rattle.hse_rows.specs.Replies as replies
+use Rattle.hse_rows.specs.Replies.{Refusal, Answer}
+use Rattle.hse_rows.specs.Calls.{inside, outside, Call}
+use Rattle.hse_rows.specs.Calls as call
+use Rattle.hse_rows.specs.Core.{Core, now}
+use Rattle.hse_rows.specs.CoreRefusal.{unless_busy}
+use Rattle.hse_rows.specs.CoreReply.{value_in, found_value, next_reply, end_reply}
+use Rattle.hse_rows.specs.CoreReply as replied
+use Rattle.hse_rows.specs.Schedule.{next_wish}
+use Rattle.hse_rows.specs.CoreStep.{Found, loads, breaks_off, has_version}
+use Rattle.hse_rows.specs.ScriptLines.{nobody, someone, Line, begin, write_by, get, commit, tree, seek, seek_range, read, build, next_job, end_turn, turn, job, auto, reopen, silent}
+use Rattle.hse_rows.specs.Script.{Script, order_of, job_named, cursor_named}
+use Rattle.hse_rows.specs.ScriptNames.{told, answer_named}
+use Rattle.hse_rows.specs.ScriptRefusal.{refusal, asked, with_built}
+use Rattle.hse_rows.specs.ScriptDone.{reply, done, refused_to, once_picked, job_refused, answered, key_reply, pair_reply, turn_reply, job_reply}
+use Rattle.hse_rows.specs.ScriptDone as scripts
+use Rattle.hse_rows.specs.ScriptStep.{LacksMemory, Reopens, Step, opening_answer, refused_or, answer_of, led_to}
+
+-- ---- where an answer leads
+
+reopening_leads : (found : Found) (old new : Script) (answer : Answer (List ℕ)) → Reopens found old answer new → new ≡ led_to found old reopen answer
+reopening_leads (loads stored) old new (replies.ok number) step = step.1
+reopening_leads (breaks_off part place) old new (replies.refused (replies.not_formed at_part at_place)) step = step.2
+reopening_leads (has_version version) old new (replies.refused (replies.other_version told)) step = step.1
+reopening_leads found old new replies.device_fault step = step
+reopening_leads found old new answer step = absurd step
+
+pub line_leads : (found : Found) (old new : Script) (line : Line) (answer : Answer (List ℕ)) → answer ≢ replies.no_memory → Step found old line answer new
+    → new ≡ led_to found old line answer
+line_leads found old new silent replies.silence full step = step
+line_leads found old new silent answer full step = absurd step
+line_leads found old new line replies.no_memory full step = absurd (full refl)
+line_leads found old new reopen (replies.refused (replies.busy kind)) full step = step.1
+line_leads found old new reopen answer full step = reopening_leads found old new answer step.1
+line_leads found old new line replies.device_fault full step = step.2
+line_leads found old new line (replies.refused reason) full step = step.1
+line_leads found old new line answer full step = step.2
+
+-- ---- what changes nothing
+
+abbrev Stays : Script → Script → Type 0
+Stays old new = (new ≡ old) ⊎ (new ≡ once_picked old)
+
+job_stays : (s new : Script) (wish : JobWish) → new ≡ job_refused s wish → Stays s new
+job_stays s new wish = by (is_some (asked s (call.pick wish)))
+  where
+    by : (b : Bool) → new ≡ cond b s (once_picked s) → Stays s new
+    by true is = inl is
+    by false is = inr is
+
+auto_stays : (s new : Script) (it : Option JobWish) → new ≡ for_some it s (job_refused s) → Stays s new
+auto_stays s new None is = inl is
+auto_stays s new (Some wish) is = job_stays s new wish is
+
+lacking_stays : (old new : Script) (line : Line) → LacksMemory old line new → Stays old new
+lacking_stays old new (job wish) (inl is) = inl is
+lacking_stays old new (job wish) (inr is) = job_stays old new wish is
+lacking_stays old new auto (inl is) = inl is
+lacking_stays old new auto (inr is) = auto_stays old new (next_wish old.core) is
+lacking_stays old new line is = inl is
+
+pub memory_stays : (found : Found) (old new : Script) (line : Line) → Step found old line replies.no_memory new → Stays old new
+memory_stays found old new silent step = absurd step
+memory_stays found old new line step = lacking_stays old new line step
+
+refused_stays : (s new : Script) (line : Line) → line ≢ end_turn → new ≡ refused_to s line → Stays s new
+refused_stays s new end_turn other is = absurd (other refl)
+refused_stays s new (job wish) other is = job_stays s new wish is
+refused_stays s new auto other is = auto_stays s new (next_wish s.core) is
+refused_stays s new line other is = inl is
+
+reopening_stays : (found : Found) (old new : Script) (reason : Refusal (List ℕ)) → Reopens found old (replies.refused reason) new → Stays old new
+reopening_stays (loads stored) old new reason step = absurd step
+reopening_stays (breaks_off part place) old new (replies.not_formed at_part at_place) step = inl step.2
+reopening_stays (has_version version) old new (replies.other_version told) step = inl step.1
+reopening_stays found old new reason step = absurd step
+
+pub refusal_stays : (found : Found) (old new : Script) (line : Line) (reason : Refusal (List ℕ)) → line ≢ end_turn
+    → Step found old line (replies.refused reason) new → Stays old new
+refusal_stays found old new silent reason other step = absurd step
+refusal_stays found old new reopen (replies.busy kind) other step = inl step.1
+refusal_stays found old new reopen reason other step = reopening_stays found old new reason step.1
+refusal_stays found old new line reason other step = refused_stays old new line other step.1
+
+-- ---- one answer
+
+opening_is : (found : Found) (old new : Script) (answer : Answer (List ℕ)) → answer ≢ replies.device_fault → Reopens found old answer new → answer ≡ opening_answer found
+opening_is (loads stored) old new (replies.ok number) met step = ap replies.ok step.0
+opening_is (breaks_off part place) old new (replies.refused (replies.not_formed at_part at_place)) met step =
+    λ i. replies.refused (replies.not_formed (step.0 i) (step.1 i))
+opening_is (has_version version) old new (replies.refused (replies.other_version told)) met step = λ i. replies.refused (replies.other_version (step.0 i))
+opening_is found old new replies.device_fault met step = absurd (met refl)
+opening_is found old new answer met step = absurd step
+
+-- what a refusal or none makes of an answer
+known : (r told : Option (Refusal (List ℕ))) (answer : Answer (List ℕ)) → r ≡ told → refused_or told answer ≡ refused_or r answer
+known r told answer is = sym (ap (λ (x : Option (Refusal (List ℕ))). refused_or x answer) is)
+
+pub answer_is : (found : Found) (old new : Script) (line : Line) (answer : Answer (List ℕ)) → answer ≢ replies.no_memory → answer ≢ replies.device_fault
+    → Step found old line answer new → answer ≡ answer_of found old line
+answer_is found old new silent replies.silence full met step = refl
+answer_is found old new silent answer full met step = absurd step
+answer_is found old new line replies.no_memory full met step = absurd (full refl)
+answer_is found old new reopen (replies.refused (replies.busy kind)) full met step =
+    known (refusal old reopen) (Some (replies.busy kind)) (opening_answer found) step.0
+answer_is found old new reopen answer full met step =
+    opening_is found old new answer met step.1 ∙ known (refusal old reopen) None (opening_answer found) step.0
+answer_is found old new line replies.device_fault full met step = absurd (met refl)
+answer_is found old new line (replies.refused reason) full met step = known (refusal old line) (Some reason) (reply old line) step.0
+answer_is found old new line answer full met step = step.1 ∙ known (refusal old line) None (reply old line) step.0
+
+-- ---- each line has its answer
+
+-- an answer that is no refusal and no want
+abbrev IsReply : {X : Type 0} → Answer X → Type 0
+IsReply (replies.refused reason) = ⊥
+IsReply replies.no_memory = ⊥
+IsReply replies.device_fault = ⊥
+IsReply answer = Unit {0}
+
+found_reply : {X Y : Type 0} (looked_up : Option X) (otherwise : Answer Y) (of_it : X → Answer Y) → IsReply otherwise → ((x : X) → IsReply (of_it x))
+    → IsReply (for_some looked_up otherwise of_it)
+found_reply None otherwise of_it plain each = plain
+found_reply (Some x) otherwise of_it plain each = each x
+
+value_reply : (held : Option (List ℕ)) → IsReply (found_value held)
+value_reply None = tt
+value_reply (Some bytes) = tt
+
+value_in_reply : (state : State) (name key : List ℕ) → IsReply (value_in state name key)
+value_in_reply state name key = found_reply (store_named state name) replies.none _ tt (λ store. value_reply (fin_map.get store.contents key))
+
+next_is_reply : (wish : Option JobWish) → IsReply (next_reply wish)
+next_is_reply None = tt
+next_is_reply (Some wish) = tt
+
+end_is_reply : (out : Turn) → IsReply (end_reply out)
+end_is_reply home = tt
+end_is_reply (taken t) = tt
+end_is_reply (ran t has_failed) = tt
+
+call_reply : (m : Core) (c : Call) → IsReply (replied.reply m c)
+call_reply m (call.get outside name key) = value_in_reply (now m) name key
+call_reply m (call.get (inside order) name key) =
+    found_reply (transaction_of m.timeline order) replies.none _ tt (λ transaction. value_in_reply (read_of m.timeline.base m.timeline.history transaction) name key)
+call_reply m (call.commit order) = found_reply (transaction_of m.timeline order) replies.accepted _ tt (λ transaction. tt)
+call_reply m (call.tree name) = found_reply (store_named (now m) name) replies.accepted _ tt (λ store. tt)
+call_reply m (call.build id) = found_reply (job_of m.jobs id) replies.accepted _ tt (λ job. tt)
+call_reply m call.next_job = next_is_reply (next_wish m)
+call_reply m call.end_turn = end_is_reply m.turn
+call_reply m (call.write_by outside name change) = tt
+call_reply m (call.write_by (inside order) name change) = tt
+call_reply m c = tt
+
+named_reply : (s : Script) (answer : Answer ℕ) → IsReply answer → IsReply (answer_named s answer)
+named_reply s (replies.refused reason) plain = absurd plain
+named_reply s replies.no_memory plain = absurd plain
+named_reply s replies.device_fault plain = absurd plain
+named_reply s answer plain = tt
+
+answered_reply : (s : Script) (c : Call) → IsReply (answered s c)
+answered_reply s c = named_reply s (replied.reply s.core c) (call_reply s.core c)
+
+key_is_reply : (key : Option (List ℕ)) → IsReply (key_reply key)
+key_is_reply None = tt
+key_is_reply (Some key) = tt
+
+pair_is_reply : (pair : Option Pair) → IsReply (pair_reply pair)
+pair_is_reply None = tt
+pair_is_reply (Some found) = tt
+
+turn_is_reply : (s : Script) (m : Core) (wish : TurnWish) → IsReply (answer_named s (turn_reply m wish))
+turn_is_reply s m wish = named_reply s (turn_reply m wish) (call_reply (scripts.ran m wish) call.end_turn)
+
+job_is_reply : (s : Script) (wish : JobWish) → IsReply (job_reply s wish)
+job_is_reply s wish = turn_is_reply s (with_built s.core wish) (install s.core.picked)
+
+line_reply : (s : Script) (line : Line) → IsReply (reply s line)
+line_reply s (begin name) = tt
+line_reply s (write_by nobody store change) = tt
+line_reply s (write_by (someone name) store change) = found_reply (order_of s name) replies.accepted _ tt (λ order. tt)
+line_reply s (get nobody store key) = answered_reply s (call.get outside store key)
+line_reply s (get (someone name) store key) =
+    found_reply (order_of s name) replies.accepted _ tt (λ order. answered_reply s (call.get (inside order) store key))
+line_reply s (commit name) = found_reply (order_of s name) replies.accepted _ tt (λ order. answered_reply s (call.commit order))
+line_reply s (tree store) = answered_reply s (call.tree store)
+line_reply s (seek name key) = found_reply (cursor_named s name) replies.accepted _ tt (λ cursor. key_is_reply (found_by (sought cursor key)))
+line_reply s (seek_range name first last) =
+    found_reply (cursor_named s name) replies.accepted _ tt (λ cursor. key_is_reply (found_by (sought_range cursor first last)))
+line_reply s (read name) = found_reply (cursor_named s name) replies.accepted _ tt (λ cursor. pair_is_reply (read_by cursor))
+line_reply s (build name) = found_reply (job_named s name) replies.accepted _ tt (λ id. answered_reply s (call.build id))
+line_reply s next_job = answered_reply s call.next_job
+line_reply s end_turn = answered_reply s call.end_turn
+line_reply s (turn wish) = turn_is_reply s s.core wish
+line_reply s (job wish) = job_is_reply s wish
+line_reply s auto = found_reply (next_wish s.core) replies.none _ tt (job_is_reply s)
+line_reply s line = tt
+
+-- a line that is neither silent nor a reopening
+abbrev IsSpoken : Line → Type 0
+IsSpoken silent = ⊥
+IsSpoken reopen = ⊥
+IsSpoken line = Unit {0}
+
+module _ (found : Found) (s : Script) where
+  -- what nothing refuses is answered and done
+  answer_done : (line : Line) (answer : Answer (List ℕ)) → IsSpoken line → IsReply answer → refusal s line ≡ None → answer ≡ reply s line
+      → Step found s line answer (led_to found s line answer)
+  answer_done silent answer spoken plain none is = absurd spoken
+  answer_done reopen answer spoken plain none is = absurd spoken
+  answer_done line (replies.refused reason) spoken plain none is = absurd plain
+  answer_done line replies.no_memory spoken plain none is = absurd plain
+  answer_done line replies.device_fault spoken plain none is = absurd plain
+  answer_done line answer spoken plain none is = (none, is, refl)
+
+  answer_refused : (line : Line) (reason : Refusal (List ℕ)) → IsSpoken line → refusal s line ≡ Some reason
+      → Step found s line (replies.refused reason) (led_to found s line (replies.refused reason))
+  answer_refused silent reason spoken is = absurd spoken
+  answer_refused reopen reason spoken is = absurd spoken
+  answer_refused line reason spoken is = (is, refl)
+
+  spoken_gets : (line : Line) → IsSpoken line → (r : Option (Refusal (List ℕ))) → refusal s line ≡ r
+      → Step found s line (refused_or r (reply s line)) (led_to found s line (refused_or r (reply s line)))
+  spoken_gets line spoken None is = answer_done line (reply s line) spoken (line_reply s line) is refl
+  spoken_gets line spoken (Some reason) is = answer_refused line reason spoken is
+
+  opening_gets : (out : Turn) → s.core.turn ≡ out
+      → Step found s reopen (refused_or (told s (unless_busy out None)) (opening_answer found))
+      (led_to found s reopen (refused_or (told s (unless_busy out None)) (opening_answer found)))
+  opening_gets home is = by found
+    where
+      none_refused : refusal s reopen ≡ None
+      none_refused = ap (λ (t : Turn). told s (unless_busy t None)) is
+
+      by : (f : Found) → Step f s reopen (opening_answer f) (led_to f s reopen (opening_answer f))
+      by (loads stored) = (none_refused, (refl, refl))
+      by (breaks_off part place) = (none_refused, (refl, refl, refl))
+      by (has_version version) = (none_refused, (refl, refl))
+  opening_gets (taken t) is = (ap (λ (t : Turn). told s (unless_busy t None)) is, refl)
+  opening_gets (ran t has_failed) is = (ap (λ (t : Turn). told s (unless_busy t None)) is, refl)
+
+  pub line_gets : (line : Line) → Step found s line (answer_of found s line) (led_to found s line (answer_of found s line))
+  line_gets silent = refl
+  line_gets reopen = opening_gets s.core.turn refl
+  line_gets line = spoken_gets line tt (refusal s line) refl

@@ -1,0 +1,127 @@
+-- A line is a run of calls of the core.
+use Rattle.std.proofs.Common.{◌≡◌, ℕ, ◌+◌, true, false, List, [], ◌∷◌, Some, None, refl, sym, ◌∙◌, ap, subst}
+use Rattle.hse_rows.specs.State.{store_named}
+use Rattle.hse_rows.specs.Job.{JobWish, is_built}
+use Rattle.hse_rows.specs.Turn.{TurnWish, sync, freeze, install, create, drop, TakenTurn, Turn, taken, written, Calls}
+use Rattle.hse_rows.specs.Replies as replies
+use Rattle.hse_rows.specs.Replies.{Refusal, Answer}
+use Rattle.hse_rows.specs.Calls.{inside, outside, Call}
+use Rattle.hse_rows.specs.Calls as call
+use Rattle.hse_rows.specs.Core.{Core, JobsAreNumbered, now}
+use Rattle.hse_rows.specs.CoreRefusal.{take_refusal, install_refusal, drop_refusal, unless_not_taken, unless_run_well}
+use Rattle.hse_rows.specs.CoreRefusal as core
+use Rattle.hse_rows.specs.CoreReply as replied
+use Rattle.hse_rows.specs.CoreDone.{taking, with_picked}
+use Rattle.hse_rows.specs.CoreDone as leads
+use Rattle.hse_rows.specs.CoreStep.{Found}
+use Rattle.hse_rows.specs.ScriptRefusal.{with_built}
+use Rattle.hse_rows.specs.ScriptDone.{turned, turn_failed}
+use Rattle.hse_rows.specs.ScriptCalls.{Leads, turn_calls}
+use Rattle.hse_rows.proofs.PassLemmas.{found, found_job}
+use Rattle.hse_rows.proofs.CoreAnswers.{IsOther, call_passes}
+use Rattle.hse_rows.proofs.JobLemmas.{picks, with_built_job, build_passes, built_is, picked_drops, built_drops, picked_gone, built_gone}
+
+-- ---- turns
+
+-- a turn that was taken is out
+takes : (m : Core) (wish : TurnWish) → take_refusal m wish ≡ None → (t : TakenTurn) × ((taking m wish).turn ≡ taken t)
+takes m sync none = (_, refl)
+takes m freeze none = (_, refl)
+takes m (install id) none =
+    found_job (λ (c : Core). (t : TakenTurn) × (c.turn ≡ taken t)) m id is_built (install_refusal m) _ (λ job is passed. (_, refl)) none
+takes m (create name mode prefix) none = (_, refl)
+takes m (drop name) none =
+    found (λ (c : Core). (t : TakenTurn) × (c.turn ≡ taken t)) (store_named (now m) name) replies.no_store (drop_refusal m) m _
+    (λ store is passed. (_, refl)) none
+
+module _ (f : Found) where
+  -- a call alone
+  pub one : (m : Core) (c : Call) → IsOther c → core.refusal m c ≡ None → Leads f m (c ∷ []) (leads.done m c)
+  one m c other none = (leads.done m c, replied.reply m c, call_passes f m c other none, refl)
+
+  pub turn_led : (m : Core) (wish : TurnWish) → take_refusal m wish ≡ None → Leads f m (turn_calls wish) (turned m wish)
+  turn_led m wish none =
+      let out = (takes m wish none).1 in
+      let taken_one : Core = leads.done m (call.take wish) in
+      let run_one : Core = leads.done taken_one call.write_turn in (
+        taken_one,
+        replies.accepted,
+        (none, refl, refl),
+        (
+          run_one,
+          replies.written,
+          (ap unless_not_taken out, refl, refl),
+          one run_one call.end_turn tt (ap (λ (t : Turn). unless_run_well (written t false)) out),
+        ),
+      )
+
+  pub turn_failed_led : (m : Core) (wish : TurnWish) → take_refusal m wish ≡ None → Calls (leads.done m (call.take wish)).turn
+      → Leads f m (turn_calls wish) (turn_failed m wish)
+  turn_failed_led m wish none calls =
+      let out = (takes m wish none).1 in
+      let taken_one : Core = leads.done m (call.take wish) in
+      let run_one : Core = leads.failing taken_one call.write_turn in (
+        taken_one,
+        replies.accepted,
+        (none, refl, refl),
+        (
+          run_one,
+          replies.device_fault,
+          (calls, refl),
+          (
+            leads.refused_to run_one call.end_turn,
+            replies.refused replies.broken,
+            (ap (λ (t : Turn). unless_run_well (written t true)) out, refl),
+            refl,
+          ),
+        ),
+      )
+
+  -- ---- jobs
+
+  module _ (m : Core) (numbered : JobsAreNumbered m) (wish : JobWish) (none : core.refusal m (call.pick wish) ≡ None) where
+    built_passes : core.refusal (leads.done m (call.pick wish)) (call.build m.picked) ≡ None
+    built_passes =
+        let it = picks m wish none in
+        subst (λ (c : Core). core.refusal c (call.build m.picked) ≡ None) (sym it.1) (build_passes m numbered it.0 it.2)
+
+    -- the pick and the build, and then others
+    pub built_first : (calls : List Call) (new : Core) → Leads f (with_built m wish) calls new
+        → Leads f m (call.pick wish ∷ call.build m.picked ∷ calls) new
+    built_first calls new later =
+        let picked_one : Core = leads.done m (call.pick wish) in (
+          picked_one,
+          replies.accepted,
+          (none, refl, refl),
+          (with_built m wish, replied.reply picked_one (call.build m.picked), call_passes f picked_one (call.build m.picked) tt built_passes, later),
+        )
+
+    with_built_is : with_built m wish ≡ with_built_job m numbered (picks m wish none).0
+    with_built_is =
+        let it = picks m wish none in
+        ap (λ (c : Core). leads.done c (call.build m.picked)) it.1 ∙ built_is m numbered it.0
+
+    -- a job that is refused after its build is dropped
+    pub refused_led : (reason : Refusal ℕ) → core.refusal (with_built m wish) (call.take (install m.picked)) ≡ Some reason
+        → Leads f m (call.pick wish ∷ call.build m.picked ∷ call.take (install m.picked) ∷ call.drop_job m.picked ∷ []) (record m { picked = m.picked + 1 })
+    refused_led reason is =
+        built_first (call.take (install m.picked) ∷ call.drop_job m.picked ∷ []) (record m { picked = m.picked + 1 }) (
+          with_built m wish,
+          replies.refused reason,
+          (is, refl),
+          subst (λ (c : Core). Leads f c (call.drop_job m.picked ∷ []) (record m { picked = m.picked + 1 })) (sym with_built_is)
+              (subst (Leads f (with_built_job m numbered (picks m wish none).0) (call.drop_job m.picked ∷ [])) (built_gone m numbered (picks m wish none).0)
+              (one (with_built_job m numbered (picks m wish none).0) (call.drop_job m.picked) tt (built_drops m numbered (picks m wish none).0))),
+        )
+
+    -- and so is one that lacks memory
+    pub dropped_led : Leads f m (call.pick wish ∷ call.drop_job m.picked ∷ []) (record m { picked = m.picked + 1 })
+    dropped_led =
+        let it = picks m wish none in (
+          leads.done m (call.pick wish),
+          replies.accepted,
+          (none, refl, refl),
+          subst (λ (c : Core). Leads f c (call.drop_job m.picked ∷ []) (record m { picked = m.picked + 1 })) (sym it.1)
+              (subst (Leads f (with_picked m it.0) (call.drop_job m.picked ∷ [])) (picked_gone m numbered it.0)
+              (one (with_picked m it.0) (call.drop_job m.picked) tt (picked_drops m numbered it.0))),
+        )
