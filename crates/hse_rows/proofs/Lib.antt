@@ -35,6 +35,13 @@ pub mod CoreGoes
 pub mod StandLemmas
 pub mod RowCases
 pub mod PhaseCases
+pub mod CauseCases
+pub mod StepCases
+pub mod JobCases
+pub mod NextCases
+pub mod CountCases
+pub mod ReadCases
+pub mod CursorLineCases
 pub mod CoreAnswers
 mod MeaningCases
 pub mod CoreLimits
