@@ -1,5 +1,5 @@
 -- Small cases of the steps of jobs, worked by hand: what picks, builds and installs change.
-use Rattle.std.proofs.Common.{◌≡◌, ℕ, true, false, List, [], ◌∷◌, map, refl}
+use Rattle.std.proofs.Common.{◌≡◌, ℕ, ◌+◌, ◌*◌, true, false, List, [], ◌∷◌, map, refl}
 use Rattle.std.specs.Prelude.{codes}
 use Rattle.hse_rows.specs.declared.store.Mode.TheVariants.{Plain}
 use Rattle.hse_rows.specs.declared.change.Change.TheVariants.{Put, Del}
@@ -12,6 +12,7 @@ use Rattle.hse_rows.specs.Turn.{freeze, create, drop, home}
 use Rattle.hse_rows.specs.ScriptLines.{nobody, write_by, pick, build, drop_job, take, take_install, write_turn, end_turn, turn, job}
 use Rattle.hse_rows.specs.Script.{Script}
 use Rattle.hse_rows.specs.ScriptDone.{done, failing, refused_to}
+use Rattle.hse_rows.proofs.CaseLines.{with_manifest}
 use Rattle.hse_rows.proofs.RowCases.{device, started, led, put_out, a, b, s, one}
 
 abbrev j : List ℕ
@@ -183,6 +184,25 @@ a_new_set_does_not_change_the_run :
     ≡ node_of [] (set_of_one (put_row 3 b) 1 ∷ set_of_one (put_row 2 a) 1 ∷ []) ∷ []
 unfolding normal_form newest
 a_new_set_does_not_change_the_run = refl
+
+-- a half of 65,536 bytes that had 641 rounds: each ingest takes 54 bytes, and each compaction 5 + 22 + 21
+abbrev after_641_rounds : Script
+after_641_rounds =
+    with_manifest
+    (led (started device)
+    (turn (create s Plain 0) ∷ put_out s a one ∷ turn freeze ∷ job ingest ∷ put_out s a one ∷ turn freeze ∷ []))
+    (record { sequence = 1; used = 58 + 641 * 102; taken = [] })
+
+one_more_ingest_has_room : (led after_641_rounds (job ingest ∷ [])).core.manifest ≡ record { sequence = 1; used = 65494; taken = [] }
+unfolding normal_form newest
+one_more_ingest_has_room = refl
+
+-- the whole state takes 5 + 25 + 16 + 25 bytes behind the head of 10
+a_compaction_behind_it_starts_the_other_half :
+    (led after_641_rounds (job ingest ∷ job (of_run values s [] 0 2) ∷ [])).core.manifest
+    ≡ record { sequence = 2; used = 81; taken = [] }
+unfolding normal_form newest
+a_compaction_behind_it_starts_the_other_half = refl
 
 -- ---- what is last is decided at the pick
 

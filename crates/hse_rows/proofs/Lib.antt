@@ -42,6 +42,7 @@ pub mod NextCases
 pub mod CountCases
 pub mod ReadCases
 pub mod CursorLineCases
+pub mod LargeCases
 pub mod CoreAnswers
 mod MeaningCases
 pub mod CoreLimits

@@ -78,6 +78,14 @@ no_other_reads_it =
     ap (λ (held : Option (List ℕ)). answer_named put_and_deleted (found_value held))
     (get-empty (slice_cmp nat_cmp) (codes "ab2"))
 
+its_prefix_delete_has_a_block :
+    answers put_and_deleted
+    (commit a ∷ turn freeze ∷ job ingest ∷ tree s ∷ job (of_run values s [] 0 1) ∷ tree s ∷ [])
+    ≡ ok 2 ∷ ok 2 ∷ ok 3 ∷ sets (record { path = []; index = 0; rows = 2; blocks = 3 } ∷ [])
+    ∷ ok 2 ∷ sets (record { path = []; index = 0; rows = 1; blocks = 2 } ∷ []) ∷ []
+unfolding normal_form newest
+its_prefix_delete_has_a_block = refl
+
 -- ---- a snapshot stays: a put, a transaction, and a put, a deletion and a put behind its snapshot
 
 abbrev old_and_new : Script
