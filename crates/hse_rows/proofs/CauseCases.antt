@@ -229,7 +229,8 @@ a_filter_of_1344_bytes_is_taken filter long =
 a_cursor_is_updated_while_store_and_transaction_live :
     answers (started device)
     (turn (create s Tx 0) ∷ begin a ∷ open_cursor a (someone a) s forward [] ∷ open_cursor b nobody s forward []
-    ∷ open_cursor (codes "c") (someone b) s forward [] ∷ abort a ∷ begin a ∷ update a ∷ update b ∷ turn (drop s) ∷ update b ∷ update (codes "c") ∷ [])
+    ∷ open_cursor (codes "c") (someone b) s forward [] ∷ abort a ∷ begin a ∷ update a ∷ update b ∷ turn (drop s) ∷ update b
+    ∷ update (codes "c") ∷ [])
     ≡ ok 1 ∷ ok 1 ∷ accepted ∷ accepted ∷ refused no_name ∷ accepted ∷ ok 1 ∷ refused (ended_by by_abort) ∷ accepted ∷ ok 2
     ∷ refused no_store ∷ refused no_name ∷ []
 a_cursor_is_updated_while_store_and_transaction_live = refl

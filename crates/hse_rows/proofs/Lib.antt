@@ -43,6 +43,7 @@ pub mod CountCases
 pub mod ReadCases
 pub mod CursorLineCases
 pub mod LargeCases
+pub mod LineOrderCases
 pub mod CoreAnswers
 mod MeaningCases
 pub mod CoreLimits
