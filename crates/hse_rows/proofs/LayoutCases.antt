@@ -59,6 +59,19 @@ the_newer_of_one_prefix_is_kept :
 unfolding newest
 the_newer_of_one_prefix_is_kept = refl
 
+-- in two sets
+one_of_two_with_one_prefix_and_number_is_kept :
+    newest (numbered 3 (PDel (codes "ab")) ∷ numbered 2 (PDel (codes "a")) ∷ numbered 3 (PDel (codes "ab")) ∷ [])
+    ≡ numbered 2 (PDel (codes "a")) ∷ numbered 3 (PDel (codes "ab")) ∷ []
+unfolding newest
+one_of_two_with_one_prefix_and_number_is_kept = refl
+
+two_prefixes_of_one_number_are_kept :
+    newest (numbered 3 (PDel (codes "b")) ∷ numbered 3 (PDel (codes "ab")) ∷ numbered 3 (Put (codes "ab") (codes "1")) ∷ [])
+    ≡ numbered 3 (PDel (codes "ab")) ∷ numbered 3 (PDel (codes "b")) ∷ numbered 3 (Put (codes "ab") (codes "1")) ∷ []
+unfolding newest
+two_prefixes_of_one_number_are_kept = refl
+
 a_covered_prefix_is_kept :
     newest (numbered 2 (PDel (codes "abc")) ∷ numbered 3 (PDel (codes "ab")) ∷ [])
     ≡ numbered 3 (PDel (codes "ab")) ∷ numbered 2 (PDel (codes "abc")) ∷ []

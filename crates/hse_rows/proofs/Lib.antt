@@ -36,6 +36,15 @@ pub mod StandLemmas
 pub mod RowCases
 pub mod PhaseCases
 pub mod PickedCases
+pub mod CauseCases
+pub mod StepCases
+pub mod JobCases
+pub mod NextCases
+pub mod CountCases
+pub mod ReadCases
+pub mod CursorLineCases
+pub mod LargeCases
+pub mod LineOrderCases
 pub mod CoreAnswers
 mod MeaningCases
 pub mod FitLemmas

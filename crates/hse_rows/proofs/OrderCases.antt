@@ -20,7 +20,7 @@ use Rattle.hse_rows.proofs.RoomCases.{with_stores}
 
 -- ---- a creation: as many stores, this number, a half that is full or new, and broken or not
 
-full_half : ManifestState
+unfoldable pub full_half : ManifestState
 full_half = record { sequence = 4611686018427387904; used = 65536; taken = [] }
 
 abbrev creating : ℕ → ℕ → ManifestState → Bool → Script

@@ -30,7 +30,7 @@ unfolding normal_form
 an_end_after_a_fault_gives_the_turn_back = refl
 
 -- an ingest whose install was taken
-abbrev install_taken : Script
+abbrev pub install_taken : Script
 install_taken =
     led (started device)
     (turn (create s Plain 0) ∷ put_out s a one ∷ turn freeze ∷ pick (codes "j") ingest ∷ build (codes "j") ∷ take_install (codes "j") ∷ [])

@@ -1,5 +1,5 @@
 -- Rows with the numbers of their commits, and the newest of them.
-use Rattle.std.specs.Prelude.{ℕ, ◌==◌, nat_lt, Bool, true, false, ◌&&◌, not, List, map, flat_map, cond}
+use Rattle.std.specs.Prelude.{ℕ, ◌==◌, nat_lt, Bool, true, false, ◌&&◌, not, List, [], ◌∷◌, map, flat_map, cond}
 use Rattle.std.specs.List.{filter, list_any}
 use Rattle.std.specs.declared.cmp.Ordering.{Ordering}
 use Rattle.std.specs.Ordering.{nat_cmp, on, then_cmp}
@@ -23,9 +23,19 @@ row_cmp =
 abbrev pub outdoes : Row → Row → Bool
 outdoes newer older = nat_lt older.number newer.number && hides_change newer.change older.change
 
+-- a prefix delete, and another of its prefix and its number
+abbrev pub is_twin : Row → Row → Bool
+is_twin row other =
+    (rank row.change == 0) && (other.number == row.number) && hides_change other.change row.change
+
+-- the rows with one of each prefix and number
+abbrev pub once_each : List Row → List Row
+once_each [] = []
+once_each (row ∷ rows) = cond (list_any (is_twin row) rows) (once_each rows) (row ∷ once_each rows)
+
 -- the rows that no other outdoes, in the order of a set
 unfoldable pub newest : List Row → List Row
-newest rows = sorted row_cmp (filter (λ row. not (list_any (λ other. outdoes other row) rows)) rows)
+newest rows = sorted row_cmp (once_each (filter (λ row. not (list_any (λ other. outdoes other row) rows)) rows))
 
 -- a row that holds a value
 abbrev pub is_put : Change → Bool

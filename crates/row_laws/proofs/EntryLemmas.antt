@@ -17,7 +17,7 @@ use Rattle.hse_rows.specs.declared.row.Row.{Row}
 use Rattle.hse_rows.specs.Change.{covers, target}
 use Rattle.hse_rows.specs.Sorted.{sorted, placed}
 use Rattle.hse_rows.specs.NormalForm.{rank, same, hides_change}
-use Rattle.hse_rows.specs.Newest.{row_cmp, outdoes, newest}
+use Rattle.hse_rows.specs.Newest.{row_cmp, outdoes, once_each, newest}
 use Rattle.hse_rows.specs.Reach.{reaches, leaves}
 use Rattle.hse_rows.specs.Holding.{same_contents}
 use Rattle.hse_rows.specs.Meaning.{contents_of, is_own, is_covering, newer, own_at, greater, covered_at, said, value_said}
@@ -29,6 +29,7 @@ use Rattle.row_laws.proofs.MeaningLemmas.{Mark, left, get-top, get-contents_of}
 use Rattle.row_laws.proofs.StepLemmas.{row_order, tie-parts}
 use Rattle.row_laws.proofs.NewestLemmas.{top-newest}
 use Rattle.row_laws.proofs.RowSetLemmas.{own-ties, none-own, above-tied}
+use Rattle.row_laws.proofs.TwinLemmas.{each-once, keys-once}
 
 -- ---- lists
 
@@ -203,7 +204,8 @@ module _ (rows : List Row) where
 
   key_rows-sorted : key_rows rows ≡ sorted row_cmp lasting_keys
   unfolding newest
-  key_rows-sorted = filter-sorted row_order is_key_row (filter lasts rows)
+  key_rows-sorted =
+      filter-sorted row_order is_key_row (once_each (filter lasts rows)) ∙ ap (sorted row_cmp) (keys-once (filter lasts rows))
 
   -- merged rows strictly rise: each key stands once
   pub rising-key_rows : AreOncePerNumber rows → IsStrictlySortedBy row_cmp (key_rows rows)
@@ -217,9 +219,14 @@ module _ (rows : List Row) where
   newest-unhidden : AllByRecursion (λ row. AllByRecursion (Unhidden row) (newest rows)) (newest rows)
   unfolding newest
   newest-unhidden =
-      each-sorted row_cmp row_order (λ row. AllByRecursion (Unhidden row) (sorted row_cmp (filter lasts rows))) (filter lasts rows)
-      (each-weaker (λ row h. each-sorted row_cmp row_order (Unhidden row) (filter lasts rows) (each-filter (Unhidden row) lasts rows h))
-      (filter lasts rows) all-unhidden)
+      each-sorted row_cmp row_order (λ row. AllByRecursion (Unhidden row) (sorted row_cmp (once_each (filter lasts rows))))
+      (once_each (filter lasts rows))
+      (each-once (λ row. AllByRecursion (Unhidden row) (sorted row_cmp (once_each (filter lasts rows)))) (filter lasts rows)
+      (each-weaker
+      (λ row h.
+      each-sorted row_cmp row_order (Unhidden row) (once_each (filter lasts rows))
+      (each-once (Unhidden row) (filter lasts rows) (each-filter (Unhidden row) lasts rows h)))
+      (filter lasts rows) all-unhidden))
 
 -- ---- values
 

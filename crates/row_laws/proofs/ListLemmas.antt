@@ -5,7 +5,7 @@ use Rattle.std.specs.Cmp.{first_so, second_so}
 use Rattle.std.specs.List.{AllByRecursion, filter, list_any}
 use Rattle.hse_rows.specs.declared.row.Row.{Row}
 use Rattle.hse_rows.specs.NormalForm.{rank, hides_change}
-use Rattle.hse_rows.specs.Newest.{outdoes, newest}
+use Rattle.hse_rows.specs.Newest.{outdoes, once_each, newest}
 use Rattle.hse_rows.specs.Reach.{reaches}
 use Rattle.hse_rows.specs.Meaning.{is_own, is_covering, newer, own_at, greater, covered_at}
 use Rattle.row_laws.specs.Merging.{is_key_row, key_rows, AreTwoKeys, AreOncePerNumber}
@@ -16,6 +16,7 @@ use Rattle.row_laws.proofs.StepLemmas.{row_order}
 use Rattle.row_laws.proofs.NewestLemmas.{hides_reaches}
 use Rattle.row_laws.proofs.EntryLemmas.{none-any, once-filter, covering-hides, own-filter, not-key}
 use Rattle.row_laws.proofs.FirstLemmas.{own-target}
+use Rattle.row_laws.proofs.TwinLemmas.{numbers-once, top-keys-once}
 
 abbrev marked : Option Row → Option (Marked Row)
 marked None = None
@@ -254,6 +255,10 @@ module _ (key : List ℕ) where
         ∙ sym (rowed-marked (own_at key (newest rows)))
         ∙ ap rowed
         (sym (own-top (newest rows))
-        ∙ top-sorted own_marked row_order (filter lasts rows) (all-pass (filter lasts rows) (once-filter lasts rows once))
+        ∙ top-sorted own_marked row_order (once_each (filter lasts rows))
+        (all-pass (once_each (filter lasts rows)) (numbers-once (filter lasts rows) (once-filter lasts rows once)))
+        ∙ top-keys-once own_marked
+        (λ row is. ap (λ (b : Bool). cond (not b && reaches row.change key) (Some (row.number, row)) None) is)
+        (filter lasts rows)
         ∙ top-lasting (own_at key rows) (covered_at key rows) refl refl)
         ∙ rowed-marked (lasting_at rows key)

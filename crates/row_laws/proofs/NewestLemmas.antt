@@ -9,8 +9,8 @@ use Rattle.hse_rows.specs.declared.change.Change.{Change}
 use Rattle.hse_rows.specs.declared.change.Change.TheVariants.{Put, Del, PDel}
 use Rattle.hse_rows.specs.declared.row.Row.{Row}
 use Rattle.hse_rows.specs.Change.{covers}
-use Rattle.hse_rows.specs.NormalForm.{rank, hides_change}
-use Rattle.hse_rows.specs.Newest.{outdoes, newest}
+use Rattle.hse_rows.specs.NormalForm.{hides_change}
+use Rattle.hse_rows.specs.Newest.{outdoes, once_each, newest}
 use Rattle.hse_rows.specs.Reach.{reaches, leaves}
 use Rattle.hse_rows.specs.Holding.{same_contents}
 use Rattle.hse_rows.specs.Meaning.{contents_of, value_said}
@@ -19,6 +19,7 @@ use Rattle.row_laws.proofs.SortedLemmas.{each-weaker, each-filter}
 use Rattle.row_laws.proofs.MarkLemmas.{later, Where, top, top-append, top-sorted, top-kept, over-top, IsOver, MayPass, MayPassAll}
 use Rattle.row_laws.proofs.MeaningLemmas.{Mark, stamp, rank-small, left, mark, get-top}
 use Rattle.row_laws.proofs.StepLemmas.{row_order, swap-agreed}
+use Rattle.row_laws.proofs.TwinLemmas.{stamp-number, stamp-rank, agreed-once, top-once}
 
 -- what hides a change reaches what it reaches
 pub hides_reaches : (later earlier : Change) (key : List ℕ) → hides_change later earlier ≡ true → reaches earlier key ≡ true → reaches later key ≡ true
@@ -38,18 +39,6 @@ agreed-filter p (row ∷ rows) agreed =
       | true ↦ (each-filter (AgreesWith row) p rows agreed.0, agreed-filter p rows agreed.1)
       | false ↦ agreed-filter p rows agreed.1
     ]
-
-stamp-number : (row other : Row) → stamp row ≡ stamp other → row.number ≡ other.number
-stamp-number row other tie =
-    let one = rank-small row.change in
-    let two = rank-small other.change in
-    omega (arith, one, two, tie)
-
-stamp-rank : (row other : Row) → stamp row ≡ stamp other → rank row.change ≡ rank other.change
-stamp-rank row other tie =
-    let one = rank-small row.change in
-    let two = rank-small other.change in
-    omega (arith, one, two, tie)
 
 module _ (key : List ℕ) where
   passes : (row other : Row) → AgreesWith row other → MayPass (mark key) row_order other row
@@ -97,7 +86,10 @@ module _ (key : List ℕ) where
     unfolding newest outdone
     top-newest agreed =
         let p = λ (row : Row). not (list_any (λ other. outdoes other row) rows) in
-        top-sorted (mark key) row_order (filter p rows) (all-pass (filter p rows) (agreed-filter p rows agreed))
+        let kept = agreed-filter p rows agreed in
+        top-sorted (mark key) row_order (once_each (filter p rows))
+        (all-pass (once_each (filter p rows)) (agreed-once (filter p rows) kept))
+        ∙ top-once key (filter p rows) kept
         ∙ top-kept (mark key) p rows (each-below rows)
 
   pub get-newest : (before rows behind : List Row) → AreAgreed rows
