@@ -1,5 +1,5 @@
 //! The calls of a disk, over those of the system.
-ghost use Rattle.std.specs.Prelude.{◌≡◌, ◌+◌, ◌^◌, ◌≤◌, [], length, IfOk, OnOk, OnErr, IsErr};
+ghost use Rattle.std.specs.Prelude.{◌≡◌, ◌+◌, ◌^◌, ◌≤◌, true, [], length, IfOk, OnOk, OnErr, IsErr};
 ghost use Rattle.media_disk.specs.Calls.{Called};
 ghost use Rattle.file_disk.specs.FileState.{KeepsFile};
 
@@ -100,6 +100,7 @@ impl<R: Files<File = File> + Drop> Disk for FileDisk<R> {
     fn sync(&mut self) -> Result<(), Failed>
         ensures call { Called ⟦<FileDisk<R> as Device>⟧ self.old self.new result }
         ensures extent { self.new.extent ≡ self.old.extent }
+        ensures folder { OnOk result (self.new.is_folder_synced ≡ true) }
         ensures file { KeepsFile self.old self.new result }
     {
         self.begin()?;

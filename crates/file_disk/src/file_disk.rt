@@ -33,6 +33,7 @@ impl<R: Files<File = File>> Model for FileDisk<R> {
     ghost view = { λ s. record {
       path = string_bytes s.path;
       descriptor = option_map file_raw_fd s.file;
+      is_folder_synced = s.is_folder_synced;
       extent = s.extent;
       faults = s.faults;
       clock = s.clock;
@@ -42,7 +43,7 @@ impl<R: Files<File = File>> Model for FileDisk<R> {
 }
 
 impl<R: Files<File = File> + Drop> FileDisk<R> {
-    ghost use Rattle.std.specs.Prelude.{◌-◌, ◌^◌, ◌≤◌, Some, Ok, IfOk, IsOk, IsErr, IsSome, OnOk, OnErr, MatchResult};
+    ghost use Rattle.std.specs.Prelude.{◌-◌, ◌^◌, ◌≤◌, true, Some, Ok, IfOk, IsOk, IsErr, IsSome, OnOk, OnErr, MatchResult};
     ghost use Rattle.std.specs.Fd.{file_raw_fd};
     ghost use Rattle.hse_io.specs.Faults.{HasCause, next_count};
     ghost use Rattle.media_disk.specs.Calls.{Called};
@@ -91,7 +92,8 @@ impl<R: Files<File = File> + Drop> FileDisk<R> {
     /// Makes the data and the length safe, and at the first time also that the file stands in its folder.
     pub(crate) fn sync_all(&mut self) -> io::Result<()>
         requires { IsSome self.old.descriptor }
-        ensures { self.new ≡ self.old }
+        ensures synced { OnOk result (self.new ≡ record self.old { is_folder_synced = true }) }
+        ensures failed { OnErr result (self.new ≡ self.old) }
     {
         self.opened().sync_all()?;
         if !self.is_folder_synced {
@@ -125,6 +127,7 @@ impl<R: Files<File = File> + Drop> FileDisk<R> {
     /// opens nothing.
     pub(crate) fn begin(&mut self) -> Result<(), Failed>
         ensures extent { self.new.extent ≡ self.old.extent }
+        ensures folder { self.new.is_folder_synced ≡ self.old.is_folder_synced }
         ensures call { Called ⟦<FileDisk<R> as Device>⟧ self.old self.new result }
         ensures file { KeepsFile self.old self.new result }
     {

@@ -13,18 +13,6 @@ longest_prefix = 32
 abbrev pub longest_value : ℕ
 longest_value = 4294967295
 
--- what an entry has before its changes: its number and their count
-abbrev pub entry_head : ℕ
-entry_head = 12
-
--- what a put has beside its key and its value
-abbrev pub put_beside : ℕ
-put_beside = 15
-
--- what a deletion has beside its key, and a prefix delete beside its prefix
-abbrev pub deletion_beside : ℕ
-deletion_beside = 11
-
 -- what an entry takes of a segment's room beside its own bytes
 abbrev pub frame : ℕ
 frame = 32

@@ -10,10 +10,7 @@ mod split;
 mod take;
 
 pub use laws::{log_text_is_read, log_text_is_read_by_rule, put_is_taken};
-pub use limits::{
-    DELETION, DELETION_BESIDE, ENTRY_HEAD, FRAME, LONGEST_KEY, LONGEST_PREFIX, LONGEST_VALUE,
-    PREFIX_DELETE, PUT, PUT_BESIDE,
-};
+pub use limits::{DELETION, LONGEST_KEY, LONGEST_PREFIX, LONGEST_VALUE, PREFIX_DELETE, PUT};
 pub use put::{put_bytes, put_pieces, put_u8, put_u16, put_u32, put_u64};
 pub use short::Short;
 pub use split::{split_bytes, split_u8, split_u16, split_u32, split_u64};

@@ -17,15 +17,3 @@ pub const LONGEST_PREFIX: u64 = 32;
 
 /// The most bytes that a value has whose length can be written.
 pub const LONGEST_VALUE: u64 = 4_294_967_295;
-
-/// What an entry has before its changes: its number and their count.
-pub const ENTRY_HEAD: u64 = 12;
-
-/// What a put has beside its key and its value.
-pub const PUT_BESIDE: u64 = 15;
-
-/// What a deletion has beside its key, and a prefix delete beside its prefix.
-pub const DELETION_BESIDE: u64 = 11;
-
-/// What an entry takes of a segment's room beside its own bytes.
-pub const FRAME: u64 = 32;

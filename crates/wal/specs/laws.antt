@@ -6,3 +6,4 @@ pub mod Taken
 pub mod MoreTaken
 pub mod Gapless
 pub mod Stores
+pub mod Starts

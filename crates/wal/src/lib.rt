@@ -25,9 +25,11 @@ pub use encode::{encode_batch, put_entry};
 pub use live::StorePrefix;
 pub use number_laws::{
     entries_follow_the_numbers, later_taken_numbers_change_nothing, numbers_without_a_gap_follow,
-    replayed_is_a_run,
+    replayed_is_a_run, starts_alike_read_the_same,
 };
 pub use replay::segment_in;
 pub use segment::{Segment, SegmentFault};
-pub use segment_laws::{one_batch_more, one_replay, unnamed_stores_change_nothing};
+pub use segment_laws::{
+    dropped_stores_change_nothing, one_batch_more, one_replay, unnamed_stores_change_nothing,
+};
 pub use text_laws::{charge_is_length, commits_are_a_payload, encoded_is_replayed};

@@ -1,5 +1,5 @@
 //! Laws of the commits' numbers. These functions do nothing; their contracts are the laws.
-ghost use Rattle.std.specs.Prelude.{◌≡◌, ◌≤◌, ℕ, List, Ok};
+ghost use Rattle.std.specs.Prelude.{◌≡◌, ◌≤◌, ◌∷◌, ℕ, List, Ok};
 ghost use Rattle.std.specs.List.{All};
 ghost use Rattle.std.specs.List.Sorted.{IsStrictlyIncreasing};
 ghost use Rattle.gate_log.specs.declared.front.End.{End as an_end};
@@ -11,7 +11,7 @@ ghost use Rattle.wal.specs.Numbered.{untaken, IsRun};
 ghost use Rattle.wal.specs.Numbering.{Numbers, numbering};
 ghost use Rattle.wal.specs.Replaying.{segment_of};
 ghost use Rattle.wal.specs.declared.live.StorePrefix.{StorePrefix as a_prefix};
-ghost use Rattle.wal.specs.Taken.{with_taken, FollowsNumbers, MayFollow};
+ghost use Rattle.wal.specs.Taken.{with_taken, FollowsNumbers, MayFollow, StartsAlike};
 
 /// Where no number is taken, the commits that are replayed are numbered one after another, and
 /// their charges fit into the room.
@@ -59,4 +59,14 @@ pub fn later_taken_numbers_change_nothing()
         → All (λ (t : ℕ). last.next ≤ t) more
         → segment_of live most (with_taken start more) payloads (Closed tail)
         ≡ Ok (entries, with_taken last more) }
+{}
+
+/// A segment with a batch is read the same from two starts from which the same number comes first,
+/// with the same taken numbers behind it and the same room. So it is where the horizon rose, and the
+/// taken numbers up to it are no longer known.
+pub fn starts_alike_read_the_same()
+    ensures { (live : List a_prefix) (most : ℕ) (one other : Numbers) (payload : List ℕ)
+        (payloads : List (List ℕ)) (end : an_end) → StartsAlike one other
+        → segment_of live most one (payload ∷ payloads) end
+        ≡ segment_of live most other (payload ∷ payloads) end }
 {}

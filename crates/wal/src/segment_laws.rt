@@ -1,5 +1,6 @@
 //! Laws of segments. These functions do nothing; their contracts are the laws.
-ghost use Rattle.std.specs.Prelude.{◌≡◌, ◌+◌, ◌++◌, ◌∷◌, [], ℕ, List, Ok};
+ghost use Rattle.std.specs.Prelude.{◌≡◌, ◌≢◌, ◌+◌, ◌++◌, ◌∷◌, [], ℕ, List, Ok};
+ghost use Rattle.std.specs.List.{All};
 ghost use Rattle.gate_log.specs.Gates.{IsClosed};
 ghost use Rattle.gate_log.specs.declared.front.End.{End as an_end};
 ghost use Rattle.gate_log.specs.declared.front.End.TheVariants.{Closed};
@@ -72,4 +73,14 @@ pub fn unnamed_stores_change_nothing()
         → LacksStore store.store.0 entries
         → segment_of (before ++ behind) most start payloads end ≡ Ok (entries, last)
         → segment_of (before ++ store ∷ behind) most start payloads end ≡ Ok (entries, last) }
+{}
+
+/// A segment that is read is read the same with a store taken out of the live ones, whatever its
+/// changes name, if that store is not listed again: a dropped store's commits stay readable.
+pub fn dropped_stores_change_nothing()
+    ensures { (before behind : List a_prefix) (store : a_prefix) (most : ℕ)
+        (start last : Numbers) (payloads : List (List ℕ)) (end : an_end) (entries : List Entry)
+        → All (λ (p : a_prefix). p.store.0 ≢ store.store.0) behind
+        → segment_of (before ++ store ∷ behind) most start payloads end ≡ Ok (entries, last)
+        → segment_of (before ++ behind) most start payloads end ≡ Ok (entries, last) }
 {}

@@ -251,10 +251,3 @@ change_bounded most c small formed = record {
   short_name = formed.short_name;
   value_fits = value_bounded c.kind most c.value small formed.value_fits;
 }
-
--- a change is what stands before its value, and its value
-pub head_is : (c : Change) → change_text c ≡ head_text c.kind c.store c.name ++ value_text c.kind c.value
-head_is c =
-    let v = value_text c.kind c.value in
-    sym (append_assoc (big_bytes 1 (code c.kind)) (big_bytes 8 c.store ++ sized 2 c.name) v
-    ∙ ap (λ (l : List ℕ). big_bytes 1 (code c.kind) ++ l) (append_assoc (big_bytes 8 c.store) (sized 2 c.name) v))

@@ -169,13 +169,3 @@ payload_again rule most state last es small formed follow fits =
     let read : entries_of rule most state (length es) (flat_map entry_text es) ≡ Ok ((es, last), []) =
     ap (entries_of rule most state (length es)) text ∙ entries_again rule most state last es [] small formed.formed follow fits in
     rw (number_again 4 (length es) (flat_map entry_text es) (omega (arith, formed.counted)), some, read) refl
-
--- An entry is as long as what a reading of it takes.
-pub entry_length : (prefix_fits : ℕ → ℕ → Bool) (most : ℕ) (bytes : List ℕ) (number : ℕ) (behind : List ℕ) (changes : List Change) (rest : List ℕ) → IsBytes bytes
-    → number_of 8 bytes ≡ Ok (number, behind) → changes_of prefix_fits most behind ≡ Ok (changes, rest)
-    → length bytes ≡ length (entry_text (record { number = number; changes = changes })) + length rest
-entry_length prefix_fits most bytes number behind changes rest small first second =
-    let head = number_takes 8 width_8 bytes number behind small first in
-    let body = changes_take prefix_fits most behind (changes, rest) head.0.rest_fits second in
-    let all = Takes-then bytes (big_bytes 8 number) behind (changes_text changes) rest head.0 body.taken in
-    ap length all.parts ∙ length-append (big_bytes 8 number ++ changes_text changes) rest

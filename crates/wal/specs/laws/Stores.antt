@@ -1,7 +1,8 @@
 -- What is read where some stores are live is read where others are, if the stores of the changes read are alike.
 use Rattle.std.specs.Prelude.{◌≡◌, ◌≢◌, ℕ, Bool, true, false, List, [], ◌∷◌, ◌++◌, Ok, ◌==◌, nat_le}
 use Rattle.std.specs.List.{All, AllByRecursion}
-use Rattle.std.proofs.Common.{refl, sym, ap, subst, ◌∙◌, cond}
+use Rattle.std.proofs.Common.{refl, sym, ap, subst, ◌∙◌, cond, inl, inr}
+use Rattle.std.proofs.lemmas.Bool.{cases_eq}
 use Rattle.std.proofs.lemmas.Bool.{ne_eqb}
 use Rattle.std.proofs.lemmas.List.Elements.{All-weaker, recursion_from_All}
 use Rattle.gate_log.specs.declared.front.End.{End}
@@ -129,3 +130,54 @@ pub segment_with : (beginning behind : List StorePrefix) (p : StorePrefix) (most
 segment_with beginning behind p most start last payloads end entries lacks e =
     segment_alike (beginning ++ behind) (beginning ++ p ∷ behind) most start last payloads end entries
     (turned (beginning ++ p ∷ behind) (beginning ++ behind) entries (lacks_alike beginning behind p entries lacks)) e
+
+-- ---- a store taken out that its changes name
+
+more_too : (live other : List StorePrefix) → ((store size : ℕ) → prefix_fits live store size ≡ true → prefix_fits other store size ≡ true)
+    → (kind : Kind) (store size : ℕ) → name_fits (prefix_fits live) kind store size ≡ true → name_fits (prefix_fits other) kind store size ≡ true
+more_too live other more put store size e = refl
+more_too live other more del store size e = refl
+more_too live other more pdel store size e = more store size e
+
+changes_more : (live other : List StorePrefix) → ((store size : ℕ) → prefix_fits live store size ≡ true → prefix_fits other store size ≡ true)
+    → (cs : List Change) → AllByRecursion (AllowsToo (prefix_fits live) (prefix_fits other)) cs
+changes_more live other more [] = tt
+changes_more live other more (c ∷ cs) = ((λ size e. more_too live other more c.kind c.store size e), changes_more live other more cs)
+
+entries_more : (live other : List StorePrefix) → ((store size : ℕ) → prefix_fits live store size ≡ true → prefix_fits other store size ≡ true)
+    → (es : List Entry) → AllowsAll (prefix_fits live) (prefix_fits other) es
+entries_more live other more [] = tt
+entries_more live other more (e ∷ es) = (changes_more live other more e.changes, entries_more live other more es)
+
+fits_unlisted : (live : List StorePrefix) (id size : ℕ) → AllByRecursion (λ (q : StorePrefix). q.store.0 ≢ id) live → prefix_fits live id size ≡ true
+fits_unlisted [] id size none = refl
+fits_unlisted (q ∷ live) id size none =
+    let test : (q.store.0 == id) ≡ false = ne_eqb q.store.0 id none.0 in
+    let rest = fits_unlisted live id size none.1 in
+    rw test rest
+
+cond_more : (b x y z : Bool) → (y ≡ true → z ≡ true) → cond b x y ≡ true → cond b x z ≡ true
+cond_more true x y z more e = e
+cond_more false x y z more e = more e
+
+fits_dropped : (beginning behind : List StorePrefix) (p : StorePrefix) (store size : ℕ) → AllByRecursion (λ (q : StorePrefix). q.store.0 ≢ p.store.0) behind
+    → prefix_fits (beginning ++ p ∷ behind) store size ≡ true → prefix_fits (beginning ++ behind) store size ≡ true
+fits_dropped [] behind p store size none e =
+    elim (cases_eq p.store.0 store) [
+      | inl same ↦ subst (λ (id : ℕ). prefix_fits behind id size ≡ true) same (fits_unlisted behind p.store.0 size none)
+      | inr apart ↦ sym (fits_without [] behind p store size (λ s. apart (sym s))) ∙ e
+    ]
+fits_dropped (q ∷ beginning) behind p store size none e =
+    cond_more (q.store.0 == store) (nat_le size q.length) _ _ (λ h. fits_dropped beginning behind p store size none h) e
+
+-- A segment is read the same with a store taken out, whatever its changes name, if it is not listed again.
+pub segment_dropped : (beginning behind : List StorePrefix) (p : StorePrefix) (most : ℕ) (start last : Numbers) (payloads : List (List ℕ)) (end : End) (entries : List Entry)
+    → All (λ (q : StorePrefix). q.store.0 ≢ p.store.0) behind → segment_of (beginning ++ p ∷ behind) most start payloads end ≡ Ok (entries, last)
+    → segment_of (beginning ++ behind) most start payloads end ≡ Ok (entries, last)
+segment_dropped beginning behind p most start last payloads end entries none e =
+    let live = beginning ++ p ∷ behind in
+    let other = beginning ++ behind in
+    let once = recursion_from_All (λ (q : StorePrefix). q.store.0 ≢ p.store.0) behind none in
+    let allows = entries_more live other (λ store size h. fits_dropped beginning behind p store size once h) entries in
+    let read = batches_too live other most start 9 payloads (entries, last) allows (closed_read live most start payloads end (entries, last) e) in
+    closed_too other most start payloads end (entries, last) (ends_closed live most start payloads end (entries, last) e) read

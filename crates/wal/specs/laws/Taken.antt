@@ -108,6 +108,27 @@ follow_full live state last (e ∷ es) follow n number low high here =
       ]
     ]
 
+-- Nor is one behind the last of them, up to the next number.
+follow_full_behind : (live : List StorePrefix) (state last : Numbers) (es : List Entry) → Follow (numbering live) state es last
+    → (n : ℕ) → state.next ≤ n → n < last.next → IsIn n state.taken ⊎ IsIn n (numbers_of es)
+follow_full_behind live state last [] follow n low high =
+    let same : state.next ≡ last.next = ap (λ (s : Numbers). s.next) follow in absurd (omega (arith, low, high, same))
+follow_full_behind live state last (e ∷ es) follow n low high =
+    let is = (came state follow.1 e follow.2).is in
+    let first : e.number ≡ free_from state.next state.taken = number_is state e.number follow.0 in
+    let next : e.number + 1 ≡ follow.1.next = ap (λ (s : Numbers). s.next) is in
+    let taken : taken_from state.next state.taken ≡ follow.1.taken = ap (λ (s : Numbers). s.taken) is in
+    elim (cases_lt n e.number) [
+      | inl lt ↦ inl (free_fills state.next state.taken n low (subst (λ (m : ℕ). n < m) first lt))
+      | inr le ↦ elim (cases_eq n e.number) [
+        | inl same ↦ inr (inl (sym same))
+        | inr apart ↦
+            passed_back n e.number state.next state.taken (numbers_of es)
+            (subst (λ (ts : List ℕ). IsIn n ts ⊎ IsIn n (numbers_of es)) (sym taken)
+            (follow_full_behind live follow.1 last es follow.3 n (omega (arith, le, apart, next)) high))
+      ]
+    ]
+
 full_of : (live : List StorePrefix) (state last : Numbers) (es : List Entry) → Follow (numbering live) state es last
     → All (NoneFree state.next state.taken (numbers_of es)) (numbers_of es)
 full_of live state last es follow =
@@ -134,4 +155,5 @@ follows_numbers live state last es rising follow =
       below = All-from_recursion (λ (n : ℕ). n < last.next) ns r.below;
       grows = follow_grows live state last es follow;
       full = full_of live state last es follow;
+      full_behind = λ n low high. back_to n state.taken ns (follow_full_behind live state last es follow n low high);
     }
