@@ -7,7 +7,7 @@ use Rattle.hse_rows.specs.Timeline.{transaction_of, for_some}
 use Rattle.hse_rows.specs.Job.{JobWish, job_of}
 use Rattle.hse_rows.specs.Turn.{Turn, home, taken, ran}
 use Rattle.hse_rows.specs.Replies.{Refusal, busy, not_formed, other_version, Answer, accepted, ok, value, none, sets, pick_next, refused, no_memory, device_fault}
-use Rattle.hse_rows.specs.Calls.{outside, inside, Call, begin, write_by, get, commit, abort, list_stores, tree, info, take_place, give_place, pick, build, drop_job, next_job, take, write_turn, end_turn, reopen}
+use Rattle.hse_rows.specs.Calls.{outside, inside, Call, begin, write_by, get, commit, abort, list_stores, tree, info, take_place, give_place, pick, build, drop_job, next_job, take, take_install, write_turn, end_turn, reopen}
 use Rattle.hse_rows.specs.Core.{Core, now}
 use Rattle.hse_rows.specs.CoreRefusal.{refusal, unless_busy}
 use Rattle.hse_rows.specs.CoreDone.{done, refused_to}
@@ -193,6 +193,7 @@ module _ (found : Found) (m : Core) where
   call_passes (drop_job id) other passed = (passed, refl, refl)
   call_passes next_job other passed = next_done (reply m next_job) (next_plain (next_wish m)) passed refl
   call_passes (take wish) other passed = (passed, refl, refl)
+  call_passes (take_install id) other passed = (passed, refl, refl)
   call_passes write_turn other passed = (passed, refl, refl)
   call_passes end_turn other passed = end_done (reply m end_turn) (end_plain m.turn) passed refl
   call_passes reopen other passed = absurd other
@@ -215,6 +216,7 @@ module _ (found : Found) (m : Core) where
   call_refused (drop_job id) reason other is = (is, refl)
   call_refused next_job reason other is = (is, refl)
   call_refused (take wish) reason other is = (is, refl)
+  call_refused (take_install id) reason other is = (is, refl)
   call_refused write_turn reason other is = (is, refl)
   call_refused end_turn reason other is = (is, refl)
   call_refused reopen reason other is = absurd other
@@ -261,6 +263,7 @@ module _ (found : Found) (m : Core) where
   call_gets (drop_job id) = other_gets (drop_job id) tt (refusal m (drop_job id)) refl
   call_gets next_job = other_gets next_job tt (refusal m next_job) refl
   call_gets (take wish) = other_gets (take wish) tt (refusal m (take wish)) refl
+  call_gets (take_install id) = other_gets (take_install id) tt (refusal m (take_install id)) refl
   call_gets write_turn = other_gets write_turn tt (refusal m write_turn) refl
   call_gets end_turn = other_gets end_turn tt (refusal m end_turn) refl
   call_gets reopen = opening_gets m.turn refl

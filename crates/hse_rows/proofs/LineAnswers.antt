@@ -6,7 +6,7 @@ use Rattle.hse_rows.specs.Transaction.{read_of}
 use Rattle.hse_rows.specs.Timeline.{for_some, transaction_of}
 use Rattle.hse_rows.specs.Cursor.{Pair, read_by, sought, sought_range, found_by}
 use Rattle.hse_rows.specs.Job.{JobWish, job_of}
-use Rattle.hse_rows.specs.Turn.{TurnWish, Turn, home, taken, ran, install}
+use Rattle.hse_rows.specs.Turn.{Turn, home, taken, ran}
 use Rattle.hse_rows.specs.Replies as replies
 use Rattle.hse_rows.specs.Replies.{Refusal, Answer}
 use Rattle.hse_rows.specs.Calls.{inside, outside, Call}
@@ -178,11 +178,11 @@ pair_is_reply : (pair : Option Pair) → IsReply (pair_reply pair)
 pair_is_reply None = tt
 pair_is_reply (Some found) = tt
 
-turn_is_reply : (s : Script) (m : Core) (wish : TurnWish) → IsReply (answer_named s (turn_reply m wish))
-turn_is_reply s m wish = named_reply s (turn_reply m wish) (call_reply (scripts.ran m wish) call.end_turn)
+turn_is_reply : (s : Script) (m : Core) (first : Call) → IsReply (answer_named s (turn_reply m first))
+turn_is_reply s m first = named_reply s (turn_reply m first) (call_reply (scripts.ran m first) call.end_turn)
 
 job_is_reply : (s : Script) (wish : JobWish) → IsReply (job_reply s wish)
-job_is_reply s wish = turn_is_reply s (with_built s.core wish) (install s.core.picked)
+job_is_reply s wish = turn_is_reply s (with_built s.core wish) (call.take_install s.core.picked)
 
 line_reply : (s : Script) (line : Line) → IsReply (reply s line)
 line_reply s (begin name) = tt
@@ -200,7 +200,7 @@ line_reply s (read name) = found_reply (cursor_named s name) replies.accepted _ 
 line_reply s (build name) = found_reply (job_named s name) replies.accepted _ tt (λ id. answered_reply s (call.build id))
 line_reply s next_job = answered_reply s call.next_job
 line_reply s end_turn = answered_reply s call.end_turn
-line_reply s (turn wish) = turn_is_reply s s.core wish
+line_reply s (turn wish) = turn_is_reply s s.core (call.take wish)
 line_reply s (job wish) = job_is_reply s wish
 line_reply s auto = found_reply (next_wish s.core) replies.none _ tt (job_is_reply s)
 line_reply s line = tt

@@ -6,12 +6,12 @@ use Rattle.hse_rows.specs.NormalForm.{normal_form}
 use Rattle.hse_rows.specs.Newest.{newest}
 use Rattle.hse_rows.specs.Sizes.{Sizes}
 use Rattle.hse_rows.specs.Job.{ingest}
-use Rattle.hse_rows.specs.Turn.{freeze, install, create, Turn, home, taken, ran}
-use Rattle.hse_rows.specs.Replies.{accepted, ok, refused, full, no_run, node_busy}
+use Rattle.hse_rows.specs.Turn.{freeze, create, Turn, home, taken, ran}
+use Rattle.hse_rows.specs.Replies.{accepted, refused, full, node_busy}
 use Rattle.hse_rows.specs.Calls as call
 use Rattle.hse_rows.specs.Core.{formatted, life}
 use Rattle.hse_rows.specs.Recorded.{taken_in, due, IsRecorded, IsInOrder}
-use Rattle.hse_rows.specs.ScriptLines.{write_by, pick, build, take, take_install, write_turn, turn, job, auto}
+use Rattle.hse_rows.specs.ScriptLines.{pick, build, take, take_install, turn, job, auto}
 use Rattle.hse_rows.specs.Script.{Script}
 use Rattle.hse_rows.specs.ScriptDone.{failing, once_picked}
 use Rattle.hse_rows.specs.ScriptStep.{LacksMemory}
@@ -63,7 +63,7 @@ or_after_it = inr refl
 
 a_job_is_five_calls :
     calls_of (started device) (job ingest)
-    ≡ call.pick ingest ∷ call.build 0 ∷ call.take (install 0) ∷ call.write_turn ∷ call.end_turn ∷ []
+    ≡ call.pick ingest ∷ call.build 0 ∷ call.take_install 0 ∷ call.write_turn ∷ call.end_turn ∷ []
 a_job_is_five_calls = refl
 
 where_nothing_comes_next_there_is_none : calls_of (started device) auto ≡ []

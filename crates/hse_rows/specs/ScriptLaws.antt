@@ -42,9 +42,9 @@ Run old (entry ∷ entries) new =
 abbrev pub SyncsAreOneStep : Type 0
 SyncsAreOneStep =
     (m : Core)
-    → (turned m sync ≡ record m { safe = number_of m; turn = home })
-    × (turn_reply m sync ≡ ok (number_of m))
-    × (turn_failed m sync ≡ record m { is_broken = true; turn = home })
+    → (turned m (call.take sync) ≡ record m { safe = number_of m; turn = home })
+    × (turn_reply m (call.take sync) ≡ ok (number_of m))
+    × (turn_failed m (call.take sync) ≡ record m { is_broken = true; turn = home })
 
 -- a core with one move more, when all is safe
 abbrev pub SafeAfter : Core → Core
@@ -54,26 +54,26 @@ SafeAfter m = record m { safe = number_of m; turn = home }
 abbrev pub CreationsAreOneStep : Type 0
 CreationsAreOneStep =
     (m : Core) (name : List ℕ) (mode : Mode) (prefix_length : ℕ)
-    → (turned m (create name mode prefix_length)
+    → (turned m (call.take (create name mode prefix_length))
     ≡ record (SafeAfter (with_move m (move.create name mode prefix_length))) {
       manifest = entered m (creation_entry m name mode prefix_length);
     })
-    × (turn_reply m (create name mode prefix_length) ≡ ok (number_of m + 1))
-    × (turn_failed m (create name mode prefix_length)
+    × (turn_reply m (call.take (create name mode prefix_length)) ≡ ok (number_of m + 1))
+    × (turn_failed m (call.take (create name mode prefix_length))
     ≡ record (with_move m (move.create name mode prefix_length)) { is_broken = true; turn = home })
 
 -- A drop likewise, and the sets of its store leave.
 abbrev pub DropsAreOneStep : Type 0
 DropsAreOneStep =
     (m : Core) (name : List ℕ) (store : Store) → store_named (now m) name ≡ Some store
-    → (turned m (drop name)
+    → (turned m (call.take (drop name))
     ≡ record (SafeAfter (with_move m (move.remove store.id))) {
       manifest = entered m (drop_entry m store);
       layout = layout_but m.layout store.id;
       used_slots = m.used_slots - (blocks_in m.layout - blocks_in (layout_but m.layout store.id));
     })
-    × (turn_reply m (drop name) ≡ ok (number_of m + 1))
-    × (turn_failed m (drop name) ≡ record (with_move m (move.remove store.id)) { is_broken = true; turn = home })
+    × (turn_reply m (call.take (drop name)) ≡ ok (number_of m + 1))
+    × (turn_failed m (call.take (drop name)) ≡ record (with_move m (move.remove store.id)) { is_broken = true; turn = home })
 
 -- ---- lines as calls of the core
 
