@@ -24,6 +24,7 @@ use Rattle.hse_rows.specs.ScriptRefusal.{refusal, asked, with_built}
 use Rattle.hse_rows.specs.ScriptDone.{reply, done, refused_to, once_picked, job_refused, answered, key_reply, pair_reply, turn_reply, job_reply}
 use Rattle.hse_rows.specs.ScriptDone as scripts
 use Rattle.hse_rows.specs.ScriptStep.{LacksMemory, Reopens, Step, opening_answer, refused_or, answer_of, led_to}
+use Rattle.hse_rows.proofs.CoreAnswers.{IsReply, found_reply, call_reply}
 
 -- ---- where an answer leads
 
@@ -119,47 +120,6 @@ answer_is found old new line (replies.refused reason) full met step = known (ref
 answer_is found old new line answer full met step = step.1 ∙ known (refusal old line) None (reply old line) step.0
 
 -- ---- each line has its answer
-
--- an answer that is no refusal and no want
-abbrev IsReply : {X : Type 0} → Answer X → Type 0
-IsReply (replies.refused reason) = ⊥
-IsReply replies.no_memory = ⊥
-IsReply replies.device_fault = ⊥
-IsReply answer = Unit {0}
-
-found_reply : {X Y : Type 0} (looked_up : Option X) (otherwise : Answer Y) (of_it : X → Answer Y) → IsReply otherwise → ((x : X) → IsReply (of_it x))
-    → IsReply (for_some looked_up otherwise of_it)
-found_reply None otherwise of_it plain each = plain
-found_reply (Some x) otherwise of_it plain each = each x
-
-value_reply : (held : Option (List ℕ)) → IsReply (found_value held)
-value_reply None = tt
-value_reply (Some bytes) = tt
-
-value_in_reply : (state : State) (name key : List ℕ) → IsReply (value_in state name key)
-value_in_reply state name key = found_reply (store_named state name) replies.none _ tt (λ store. value_reply (fin_map.get store.contents key))
-
-next_is_reply : (wish : Option JobWish) → IsReply (next_reply wish)
-next_is_reply None = tt
-next_is_reply (Some wish) = tt
-
-end_is_reply : (out : Turn) → IsReply (end_reply out)
-end_is_reply home = tt
-end_is_reply (taken t) = tt
-end_is_reply (ran t has_failed) = tt
-
-call_reply : (m : Core) (c : Call) → IsReply (replied.reply m c)
-call_reply m (call.get outside name key) = value_in_reply (now m) name key
-call_reply m (call.get (inside order) name key) =
-    found_reply (transaction_of m.timeline order) replies.none _ tt (λ transaction. value_in_reply (read_of m.timeline.base m.timeline.history transaction) name key)
-call_reply m (call.commit order) = found_reply (transaction_of m.timeline order) replies.accepted _ tt (λ transaction. tt)
-call_reply m (call.tree name) = found_reply (store_named (now m) name) replies.accepted _ tt (λ store. tt)
-call_reply m (call.build id) = found_reply (job_of m.jobs id) replies.accepted _ tt (λ job. tt)
-call_reply m call.next_job = next_is_reply (next_wish m)
-call_reply m call.end_turn = end_is_reply m.turn
-call_reply m (call.write_by outside name change) = tt
-call_reply m (call.write_by (inside order) name change) = tt
-call_reply m c = tt
 
 named_reply : (s : Script) (answer : Answer ℕ) → IsReply answer → IsReply (answer_named s answer)
 named_reply s (replies.refused reason) plain = absurd plain
