@@ -6,8 +6,8 @@ use Rattle.hse_rows.specs.Transaction.{read_of}
 use Rattle.hse_rows.specs.Timeline.{transaction_of, for_some}
 use Rattle.hse_rows.specs.Job.{JobWish, job_of}
 use Rattle.hse_rows.specs.Turn.{Turn, home, taken, ran}
-use Rattle.hse_rows.specs.Replies.{Refusal, busy, not_formed, other_version, Answer, accepted, ok, value, none, sets, pick_next, refused, no_memory, device_fault}
-use Rattle.hse_rows.specs.Calls.{outside, inside, Call, begin, write_by, get, commit, abort, list_stores, tree, info, take_place, give_place, pick, build, drop_job, next_job, take, take_install, write_turn, end_turn, reopen}
+use Rattle.hse_rows.specs.Replies.{Refusal, busy, not_formed, other_version, Answer, accepted, ok, none, refused, no_memory, device_fault}
+use Rattle.hse_rows.specs.Calls.{outside, inside, Call, write_by, get, commit, tree, build, next_job, write_turn, end_turn, reopen}
 use Rattle.hse_rows.specs.Core.{Core, now}
 use Rattle.hse_rows.specs.CoreRefusal.{refusal, unless_busy}
 use Rattle.hse_rows.specs.CoreDone.{done, refused_to}

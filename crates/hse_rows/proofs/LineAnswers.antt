@@ -1,17 +1,14 @@
 -- Each line has one answer but for want of memory and device faults, and an answer leads one way.
 use Rattle.std.proofs.Common.{◌≡◌, ◌≢◌, ◌⊎◌, inl, inr, ℕ, Bool, true, false, cond, List, Option, Some, None, is_some, refl, sym, ◌∙◌, ap}
-use Rattle.std.specs.FinMap as fin_map
-use Rattle.hse_rows.specs.State.{State, store_named}
-use Rattle.hse_rows.specs.Transaction.{read_of}
-use Rattle.hse_rows.specs.Timeline.{for_some, transaction_of}
+use Rattle.hse_rows.specs.Timeline.{for_some}
 use Rattle.hse_rows.specs.Cursor.{Pair, read_by, sought, sought_range, found_by}
-use Rattle.hse_rows.specs.Job.{JobWish, job_of}
+use Rattle.hse_rows.specs.Job.{JobWish}
 use Rattle.hse_rows.specs.Turn.{Turn, home, taken, ran}
 use Rattle.hse_rows.specs.Replies as replies
 use Rattle.hse_rows.specs.Replies.{Refusal, Answer}
 use Rattle.hse_rows.specs.Calls.{inside, outside, Call}
 use Rattle.hse_rows.specs.Calls as call
-use Rattle.hse_rows.specs.Core.{Core, now}
+use Rattle.hse_rows.specs.Core.{Core}
 use Rattle.hse_rows.specs.CoreRefusal.{unless_busy}
 use Rattle.hse_rows.specs.CoreReply.{value_in, found_value, next_reply, end_reply}
 use Rattle.hse_rows.specs.CoreReply as replied
