@@ -21,6 +21,7 @@ use Rattle.hse_rows.specs.ScriptRefusal.{refusal, asked, with_built}
 use Rattle.hse_rows.specs.ScriptDone.{reply, done, refused_to, once_picked, job_refused, answered, key_reply, pair_reply, turn_reply, job_reply}
 use Rattle.hse_rows.specs.ScriptDone as scripts
 use Rattle.hse_rows.specs.ScriptStep.{LacksMemory, Reopens, Step, opening_answer, refused_or, answer_of, led_to}
+use Rattle.hse_rows.specs.ScriptLaws.{PicksJob, Leaves}
 use Rattle.hse_rows.proofs.CoreAnswers.{IsReply, found_reply, call_reply}
 
 -- ---- where an answer leads
@@ -45,49 +46,46 @@ line_leads found old new line answer full step = step.2
 
 -- ---- what changes nothing
 
-abbrev Stays : Script → Script → Type 0
-Stays old new = (new ≡ old) ⊎ (new ≡ once_picked old)
-
-job_stays : (s new : Script) (wish : JobWish) → new ≡ job_refused s wish → Stays s new
-job_stays s new wish = by (is_some (asked s (call.pick wish)))
+job_leaves : (s new : Script) (line : Line) (wish : JobWish) → PicksJob line → new ≡ job_refused s wish → Leaves line s new
+job_leaves s new line wish picks = by (is_some (asked s (call.pick wish)))
   where
-    by : (b : Bool) → new ≡ cond b s (once_picked s) → Stays s new
+    by : (b : Bool) → new ≡ cond b s (once_picked s) → Leaves line s new
     by true is = inl is
-    by false is = inr is
+    by false is = inr (picks, is)
 
-auto_stays : (s new : Script) (it : Option JobWish) → new ≡ for_some it s (job_refused s) → Stays s new
-auto_stays s new None is = inl is
-auto_stays s new (Some wish) is = job_stays s new wish is
+auto_leaves : (s new : Script) (it : Option JobWish) → new ≡ for_some it s (job_refused s) → Leaves auto s new
+auto_leaves s new None is = inl is
+auto_leaves s new (Some wish) is = job_leaves s new auto wish tt is
 
-lacking_stays : (old new : Script) (line : Line) → LacksMemory old line new → Stays old new
-lacking_stays old new (job wish) (inl is) = inl is
-lacking_stays old new (job wish) (inr is) = job_stays old new wish is
-lacking_stays old new auto (inl is) = inl is
-lacking_stays old new auto (inr is) = auto_stays old new (next_wish old.core) is
-lacking_stays old new line is = inl is
+lacking_leaves : (old new : Script) (line : Line) → LacksMemory old line new → Leaves line old new
+lacking_leaves old new (job wish) (inl is) = inl is
+lacking_leaves old new (job wish) (inr is) = job_leaves old new (job wish) wish tt is
+lacking_leaves old new auto (inl is) = inl is
+lacking_leaves old new auto (inr is) = auto_leaves old new (next_wish old.core) is
+lacking_leaves old new line is = inl is
 
-pub memory_stays : (found : Found) (old new : Script) (line : Line) → Step found old line replies.no_memory new → Stays old new
-memory_stays found old new silent step = absurd step
-memory_stays found old new line step = lacking_stays old new line step
+pub memory_leaves : (found : Found) (old new : Script) (line : Line) → Step found old line replies.no_memory new → Leaves line old new
+memory_leaves found old new silent step = absurd step
+memory_leaves found old new line step = lacking_leaves old new line step
 
-refused_stays : (s new : Script) (line : Line) → line ≢ end_turn → new ≡ refused_to s line → Stays s new
-refused_stays s new end_turn other is = absurd (other refl)
-refused_stays s new (job wish) other is = job_stays s new wish is
-refused_stays s new auto other is = auto_stays s new (next_wish s.core) is
-refused_stays s new line other is = inl is
+refused_leaves : (s new : Script) (line : Line) → line ≢ end_turn → new ≡ refused_to s line → Leaves line s new
+refused_leaves s new end_turn other is = absurd (other refl)
+refused_leaves s new (job wish) other is = job_leaves s new (job wish) wish tt is
+refused_leaves s new auto other is = auto_leaves s new (next_wish s.core) is
+refused_leaves s new line other is = inl is
 
-reopening_stays : (found : Found) (old new : Script) (reason : Refusal (List ℕ)) → Reopens found old (replies.refused reason) new → Stays old new
-reopening_stays (loads stored) old new reason step = absurd step
-reopening_stays (breaks_off part place) old new (replies.not_formed at_part at_place) step = inl step.2
-reopening_stays (has_version version) old new (replies.other_version told) step = inl step.1
-reopening_stays found old new reason step = absurd step
+reopening_leaves : (found : Found) (old new : Script) (reason : Refusal (List ℕ)) → Reopens found old (replies.refused reason) new → Leaves reopen old new
+reopening_leaves (loads stored) old new reason step = absurd step
+reopening_leaves (breaks_off part place) old new (replies.not_formed at_part at_place) step = inl step.2
+reopening_leaves (has_version version) old new (replies.other_version told) step = inl step.1
+reopening_leaves found old new reason step = absurd step
 
-pub refusal_stays : (found : Found) (old new : Script) (line : Line) (reason : Refusal (List ℕ)) → line ≢ end_turn
-    → Step found old line (replies.refused reason) new → Stays old new
-refusal_stays found old new silent reason other step = absurd step
-refusal_stays found old new reopen (replies.busy kind) other step = inl step.1
-refusal_stays found old new reopen reason other step = reopening_stays found old new reason step.1
-refusal_stays found old new line reason other step = refused_stays old new line other step.1
+pub refusal_leaves : (found : Found) (old new : Script) (line : Line) (reason : Refusal (List ℕ)) → line ≢ end_turn
+    → Step found old line (replies.refused reason) new → Leaves line old new
+refusal_leaves found old new silent reason other step = absurd step
+refusal_leaves found old new reopen (replies.busy kind) other step = inl step.1
+refusal_leaves found old new reopen reason other step = reopening_leaves found old new reason step.1
+refusal_leaves found old new line reason other step = refused_leaves old new line other step.1
 
 -- ---- one answer
 
