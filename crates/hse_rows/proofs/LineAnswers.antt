@@ -1,5 +1,5 @@
 -- Each line has one answer but for want of memory and device faults, and an answer leads one way.
-use Rattle.std.proofs.Common.{◌≡◌, ◌≢◌, ◌⊎◌, inl, inr, ℕ, Bool, true, false, cond, List, Option, Some, None, is_some, refl, sym, ◌∙◌, ap}
+use Rattle.std.proofs.Common.{◌≡◌, ◌≢◌, inl, inr, ℕ, Bool, true, false, cond, List, Option, Some, None, is_some, refl, sym, ◌∙◌, ap}
 use Rattle.hse_rows.specs.Timeline.{for_some}
 use Rattle.hse_rows.specs.Cursor.{Pair, read_by, sought, sought_range, found_by}
 use Rattle.hse_rows.specs.Job.{JobWish}
