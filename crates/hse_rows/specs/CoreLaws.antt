@@ -102,7 +102,7 @@ ChangesCursors next_job = ⊥
 ChangesCursors write_turn = ⊥
 ChangesCursors end_turn = ⊥
 
--- The phases of a sync, a freeze and an install, picks and builds change no state, no transaction and no cursor.
+-- The phases of a sync, a freeze and an install, picks and builds change no state, no transaction and no count of cursors.
 abbrev pub OthersKeepTimelines : Type 0
 OthersKeepTimelines =
     (found : Found) (old new : Core) (call : Call) (answer : Answer ℕ)
@@ -177,6 +177,13 @@ abbrev pub StepsKeepLimits : Type 0
 StepsKeepLimits =
     (found : Found) (old new : Core) (call : Call) (answer : Answer ℕ)
     → IsWithinLimits old → LoadsWithinLimits found → Step found old call answer new → IsWithinLimits new
+
+-- So every run keeps within them.
+abbrev pub RunsKeepLimits : Type 0
+RunsKeepLimits =
+    (stored : Stored) (entries : List Entry) (new : Core)
+    → IsWithinLimits (life stored) → AllByRecursion (λ entry. LoadsWithinLimits entry.found) entries
+    → Run (life stored) entries new → IsWithinLimits new
 
 -- ---- what log and manifest keep
 
