@@ -6,8 +6,8 @@ use Rattle.hse_rows.specs.Transaction.{read_of}
 use Rattle.hse_rows.specs.Timeline.{transaction_of, for_some}
 use Rattle.hse_rows.specs.Job.{JobWish, job_of}
 use Rattle.hse_rows.specs.Turn.{Turn, home, taken, ran}
-use Rattle.hse_rows.specs.Replies.{Refusal, busy, not_formed, other_version, Answer, accepted, ok, value, none, sets, pick_next, refused, no_memory, device_fault}
-use Rattle.hse_rows.specs.Calls.{outside, inside, Call, begin, write_by, get, commit, abort, list_stores, tree, info, take_place, give_place, pick, build, drop_job, next_job, take, write_turn, end_turn, reopen}
+use Rattle.hse_rows.specs.Replies.{Refusal, busy, not_formed, other_version, Answer, accepted, ok, none, refused, no_memory, device_fault}
+use Rattle.hse_rows.specs.Calls.{outside, inside, Call, write_by, get, commit, tree, build, next_job, write_turn, end_turn, reopen}
 use Rattle.hse_rows.specs.Core.{Core, now}
 use Rattle.hse_rows.specs.CoreRefusal.{refusal, unless_busy}
 use Rattle.hse_rows.specs.CoreDone.{done, refused_to}
@@ -61,39 +61,48 @@ answer_is found old new call (refused reason) full met step =
 answer_is found old new call answer full met step =
     step.1 ∙ sym (ap (λ (r : Option (Refusal ℕ)). refused_or r (reply old call)) step.0)
 
--- ---- each call has its answer
+-- ---- replies
 
--- the answers that replies by cases are
-abbrev IsPlain : Answer ℕ → Type 0
-IsPlain accepted = Unit {0}
-IsPlain (ok number) = Unit {0}
-IsPlain none = Unit {0}
-IsPlain (value bytes) = Unit {0}
-IsPlain (pick_next wish) = Unit {0}
-IsPlain (sets told) = Unit {0}
-IsPlain answer = ⊥
+-- an answer that is no refusal and no want
+abbrev pub IsReply : {X : Type 0} → Answer X → Type 0
+IsReply (refused reason) = ⊥
+IsReply no_memory = ⊥
+IsReply device_fault = ⊥
+IsReply answer = Unit {0}
 
-found_plain : {X : Type 0} (looked_up : Option X) (otherwise : Answer ℕ) (of_it : X → Answer ℕ) → IsPlain otherwise → ((x : X) → IsPlain (of_it x))
-    → IsPlain (for_some looked_up otherwise of_it)
-found_plain None otherwise of_it plain each = plain
-found_plain (Some x) otherwise of_it plain each = each x
+pub found_reply : {X Y : Type 0} (looked_up : Option X) (otherwise : Answer Y) (of_it : X → Answer Y) → IsReply otherwise → ((x : X) → IsReply (of_it x))
+    → IsReply (for_some looked_up otherwise of_it)
+found_reply None otherwise of_it plain each = plain
+found_reply (Some x) otherwise of_it plain each = each x
 
-value_plain : (held : Option (List ℕ)) → IsPlain (found_value held)
-value_plain None = tt
-value_plain (Some bytes) = tt
+value_reply : (held : Option (List ℕ)) → IsReply (found_value held)
+value_reply None = tt
+value_reply (Some bytes) = tt
 
-value_in_plain : (state : State) (name key : List ℕ) → IsPlain (value_in state name key)
-value_in_plain state name key =
-    found_plain (store_named state name) none _ tt (λ store. value_plain (fin_map.get store.contents key))
+value_in_reply : (state : State) (name key : List ℕ) → IsReply (value_in state name key)
+value_in_reply state name key = found_reply (store_named state name) none _ tt (λ store. value_reply (fin_map.get store.contents key))
 
-next_plain : (wish : Option JobWish) → IsPlain (next_reply wish)
-next_plain None = tt
-next_plain (Some wish) = tt
+next_is_reply : (wish : Option JobWish) → IsReply (next_reply wish)
+next_is_reply None = tt
+next_is_reply (Some wish) = tt
 
-end_plain : (turn : Turn) → IsPlain (end_reply turn)
-end_plain home = tt
-end_plain (taken turn) = tt
-end_plain (ran turn has_failed) = tt
+end_is_reply : (out : Turn) → IsReply (end_reply out)
+end_is_reply home = tt
+end_is_reply (taken t) = tt
+end_is_reply (ran t has_failed) = tt
+
+pub call_reply : (m : Core) (c : Call) → IsReply (reply m c)
+call_reply m (get outside name key) = value_in_reply (now m) name key
+call_reply m (get (inside order) name key) =
+    found_reply (transaction_of m.timeline order) none _ tt (λ transaction. value_in_reply (read_of m.timeline.base m.timeline.history transaction) name key)
+call_reply m (commit order) = found_reply (transaction_of m.timeline order) accepted _ tt (λ transaction. tt)
+call_reply m (tree name) = found_reply (store_named (now m) name) accepted _ tt (λ store. tt)
+call_reply m (build id) = found_reply (job_of m.jobs id) accepted _ tt (λ job. tt)
+call_reply m next_job = next_is_reply (next_wish m)
+call_reply m end_turn = end_is_reply m.turn
+call_reply m (write_by outside name change) = tt
+call_reply m (write_by (inside order) name change) = tt
+call_reply m c = tt
 
 -- ---- what nothing refuses
 
@@ -103,121 +112,23 @@ IsOther reopen = ⊥
 IsOther call = Unit {0}
 
 module _ (found : Found) (m : Core) where
-  -- a call gets this answer, and it is done
-  abbrev DoneBy : Call → Answer ℕ → Type 0
-  DoneBy call answer = refusal m call ≡ None → answer ≡ reply m call → Step found m call answer (done m call)
-
-  get_done : (name key : List ℕ) (answer : Answer ℕ) → IsPlain answer → DoneBy (get outside name key) answer
-  get_done name key accepted plain passed is = (passed, is, refl)
-  get_done name key (ok number) plain passed is = (passed, is, refl)
-  get_done name key none plain passed is = (passed, is, refl)
-  get_done name key (value bytes) plain passed is = (passed, is, refl)
-  get_done name key (pick_next wish) plain passed is = (passed, is, refl)
-  get_done name key (sets told) plain passed is = (passed, is, refl)
-  get_done name key answer plain passed is = absurd plain
-
-  get_inside_done : (order : ℕ) (name key : List ℕ) (answer : Answer ℕ) → IsPlain answer → DoneBy (get (inside order) name key) answer
-  get_inside_done order name key accepted plain passed is = (passed, is, refl)
-  get_inside_done order name key (ok number) plain passed is = (passed, is, refl)
-  get_inside_done order name key none plain passed is = (passed, is, refl)
-  get_inside_done order name key (value bytes) plain passed is = (passed, is, refl)
-  get_inside_done order name key (pick_next wish) plain passed is = (passed, is, refl)
-  get_inside_done order name key (sets told) plain passed is = (passed, is, refl)
-  get_inside_done order name key answer plain passed is = absurd plain
-
-  commit_done : (order : ℕ) (answer : Answer ℕ) → IsPlain answer → DoneBy (commit order) answer
-  commit_done order accepted plain passed is = (passed, is, refl)
-  commit_done order (ok number) plain passed is = (passed, is, refl)
-  commit_done order none plain passed is = (passed, is, refl)
-  commit_done order (value bytes) plain passed is = (passed, is, refl)
-  commit_done order (pick_next wish) plain passed is = (passed, is, refl)
-  commit_done order (sets told) plain passed is = (passed, is, refl)
-  commit_done order answer plain passed is = absurd plain
-
-  tree_done : (name : List ℕ) (answer : Answer ℕ) → IsPlain answer → DoneBy (tree name) answer
-  tree_done name accepted plain passed is = (passed, is, refl)
-  tree_done name (ok number) plain passed is = (passed, is, refl)
-  tree_done name none plain passed is = (passed, is, refl)
-  tree_done name (value bytes) plain passed is = (passed, is, refl)
-  tree_done name (pick_next wish) plain passed is = (passed, is, refl)
-  tree_done name (sets told) plain passed is = (passed, is, refl)
-  tree_done name answer plain passed is = absurd plain
-
-  build_done : (id : ℕ) (answer : Answer ℕ) → IsPlain answer → DoneBy (build id) answer
-  build_done id accepted plain passed is = (passed, is, refl)
-  build_done id (ok number) plain passed is = (passed, is, refl)
-  build_done id none plain passed is = (passed, is, refl)
-  build_done id (value bytes) plain passed is = (passed, is, refl)
-  build_done id (pick_next wish) plain passed is = (passed, is, refl)
-  build_done id (sets told) plain passed is = (passed, is, refl)
-  build_done id answer plain passed is = absurd plain
-
-  next_done : (answer : Answer ℕ) → IsPlain answer → DoneBy next_job answer
-  next_done accepted plain passed is = (passed, is, refl)
-  next_done (ok number) plain passed is = (passed, is, refl)
-  next_done none plain passed is = (passed, is, refl)
-  next_done (value bytes) plain passed is = (passed, is, refl)
-  next_done (pick_next wish) plain passed is = (passed, is, refl)
-  next_done (sets told) plain passed is = (passed, is, refl)
-  next_done answer plain passed is = absurd plain
-
-  end_done : (answer : Answer ℕ) → IsPlain answer → DoneBy end_turn answer
-  end_done accepted plain passed is = (passed, is, refl)
-  end_done (ok number) plain passed is = (passed, is, refl)
-  end_done none plain passed is = (passed, is, refl)
-  end_done (value bytes) plain passed is = (passed, is, refl)
-  end_done (pick_next wish) plain passed is = (passed, is, refl)
-  end_done (sets told) plain passed is = (passed, is, refl)
-  end_done answer plain passed is = absurd plain
+  reply_done : (call : Call) (answer : Answer ℕ) → IsOther call → IsReply answer → refusal m call ≡ None → answer ≡ reply m call
+      → Step found m call answer (done m call)
+  reply_done reopen answer other plain passed is = absurd other
+  reply_done call (refused reason) other plain passed is = absurd plain
+  reply_done call no_memory other plain passed is = absurd plain
+  reply_done call device_fault other plain passed is = absurd plain
+  reply_done call answer other plain passed is = (passed, is, refl)
 
   -- a call that nothing refuses
   pub call_passes : (call : Call) → IsOther call → refusal m call ≡ None → Step found m call (reply m call) (done m call)
-  call_passes begin other passed = (passed, refl, refl)
-  call_passes (write_by outside name change) other passed = (passed, refl, refl)
-  call_passes (write_by (inside order) name change) other passed = (passed, refl, refl)
-  call_passes (get outside name key) other passed = get_done name key (reply m (get outside name key)) (value_in_plain (now m) name key) passed refl
-  call_passes (get (inside order) name key) other passed =
-      get_inside_done order name key (reply m (get (inside order) name key))
-      (found_plain (transaction_of m.timeline order) none _ tt (λ transaction. value_in_plain (read_of m.timeline.base m.timeline.history transaction) name key))
-      passed refl
-  call_passes (commit order) other passed =
-      commit_done order (reply m (commit order)) (found_plain (transaction_of m.timeline order) accepted _ tt (λ transaction. tt)) passed refl
-  call_passes (abort order) other passed = (passed, refl, refl)
-  call_passes list_stores other passed = (passed, refl, refl)
-  call_passes (tree name) other passed = tree_done name (reply m (tree name)) (found_plain (store_named (now m) name) accepted _ tt (λ store. tt)) passed refl
-  call_passes info other passed = (passed, refl, refl)
-  call_passes take_place other passed = (passed, refl, refl)
-  call_passes give_place other passed = (passed, refl, refl)
-  call_passes (pick wish) other passed = (passed, refl, refl)
-  call_passes (build id) other passed = build_done id (reply m (build id)) (found_plain (job_of m.jobs id) accepted _ tt (λ job. tt)) passed refl
-  call_passes (drop_job id) other passed = (passed, refl, refl)
-  call_passes next_job other passed = next_done (reply m next_job) (next_plain (next_wish m)) passed refl
-  call_passes (take wish) other passed = (passed, refl, refl)
-  call_passes write_turn other passed = (passed, refl, refl)
-  call_passes end_turn other passed = end_done (reply m end_turn) (end_plain m.turn) passed refl
-  call_passes reopen other passed = absurd other
+  call_passes call other passed = reply_done call (reply m call) other (call_reply m call) passed refl
 
   -- and one that is refused
   pub call_refused : (call : Call) (reason : Refusal ℕ) → IsOther call → refusal m call ≡ Some reason
       → Step found m call (refused reason) (refused_to m call)
-  call_refused begin reason other is = (is, refl)
-  call_refused (write_by actor name change) reason other is = (is, refl)
-  call_refused (get actor name key) reason other is = (is, refl)
-  call_refused (commit order) reason other is = (is, refl)
-  call_refused (abort order) reason other is = (is, refl)
-  call_refused list_stores reason other is = (is, refl)
-  call_refused (tree name) reason other is = (is, refl)
-  call_refused info reason other is = (is, refl)
-  call_refused take_place reason other is = (is, refl)
-  call_refused give_place reason other is = (is, refl)
-  call_refused (pick wish) reason other is = (is, refl)
-  call_refused (build id) reason other is = (is, refl)
-  call_refused (drop_job id) reason other is = (is, refl)
-  call_refused next_job reason other is = (is, refl)
-  call_refused (take wish) reason other is = (is, refl)
-  call_refused write_turn reason other is = (is, refl)
-  call_refused end_turn reason other is = (is, refl)
   call_refused reopen reason other is = absurd other
+  call_refused call reason other is = (is, refl)
 
   -- ---- each call has its answer
 
@@ -246,21 +157,5 @@ module _ (found : Found) (m : Core) where
   opening_gets (ran turn has_failed) is = (ap (λ (t : Turn). unless_busy t None) is, refl)
 
   pub call_gets : (call : Call) → Gets call (answer_of found m call)
-  call_gets begin = other_gets begin tt (refusal m begin) refl
-  call_gets (write_by actor name change) = other_gets (write_by actor name change) tt (refusal m (write_by actor name change)) refl
-  call_gets (get actor name key) = other_gets (get actor name key) tt (refusal m (get actor name key)) refl
-  call_gets (commit order) = other_gets (commit order) tt (refusal m (commit order)) refl
-  call_gets (abort order) = other_gets (abort order) tt (refusal m (abort order)) refl
-  call_gets list_stores = other_gets list_stores tt (refusal m list_stores) refl
-  call_gets (tree name) = other_gets (tree name) tt (refusal m (tree name)) refl
-  call_gets info = other_gets info tt (refusal m info) refl
-  call_gets take_place = other_gets take_place tt (refusal m take_place) refl
-  call_gets give_place = other_gets give_place tt (refusal m give_place) refl
-  call_gets (pick wish) = other_gets (pick wish) tt (refusal m (pick wish)) refl
-  call_gets (build id) = other_gets (build id) tt (refusal m (build id)) refl
-  call_gets (drop_job id) = other_gets (drop_job id) tt (refusal m (drop_job id)) refl
-  call_gets next_job = other_gets next_job tt (refusal m next_job) refl
-  call_gets (take wish) = other_gets (take wish) tt (refusal m (take wish)) refl
-  call_gets write_turn = other_gets write_turn tt (refusal m write_turn) refl
-  call_gets end_turn = other_gets end_turn tt (refusal m end_turn) refl
   call_gets reopen = opening_gets m.turn refl
+  call_gets call = other_gets call tt (refusal m call) refl

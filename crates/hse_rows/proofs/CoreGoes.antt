@@ -11,13 +11,13 @@ use Rattle.hse_rows.specs.Conflict.{Conflict, conflict_of}
 use Rattle.hse_rows.specs.Moves as move
 use Rattle.hse_rows.specs.Timeline.{snapshot_of, transaction_of, IsActive, for_some, Goes, stays, moves, opens}
 use Rattle.hse_rows.specs.Job.{JobWish, ingest, of_run, job_of}
-use Rattle.hse_rows.specs.Turn.{TurnWish, sync, freeze, install, create, drop, Plan, settles, enters, removes, installs, Turn, home, taken, ran}
+use Rattle.hse_rows.specs.Turn.{TurnWish, sync, freeze, create, drop, Plan, settles, enters, removes, installs, Turn, home, taken, ran}
 use Rattle.hse_rows.specs.Replies as replies
 use Rattle.hse_rows.specs.Replies.{Refusal, Answer, no_store}
-use Rattle.hse_rows.specs.Calls.{outside, inside, Call, begin, write_by, get, commit, abort, list_stores, tree, info, take_place, give_place, pick, build, drop_job, next_job, take, write_turn, end_turn, reopen}
+use Rattle.hse_rows.specs.Calls.{outside, inside, Call, begin, write_by, get, commit, abort, list_stores, tree, info, take_place, give_place, pick, build, drop_job, next_job, take, take_install, write_turn, end_turn, reopen}
 use Rattle.hse_rows.specs.Core.{Core, Stored, life, left_room, now, write_to, with_move}
 use Rattle.hse_rows.specs.CoreRefusal.{refusal, refuse, is_spent, is_tx, change_refusal, size_refusal, unless_canceled, unless_ended, commit_refusal, outside_refusal, inside_refusal, drop_refusal}
-use Rattle.hse_rows.specs.CoreDone.{done, failing, refused_to, taking, picking, building, ending, ending_failed, planned, given_up, log_with, committing_write}
+use Rattle.hse_rows.specs.CoreDone.{done, failing, refused_to, taking, taking_install, picking, building, ending, ending_failed, planned, given_up, log_with, committing_write}
 use Rattle.hse_rows.specs.CoreStep.{Found, loads, breaks_off, has_version, Reopens, Step}
 use Rattle.hse_rows.specs.CoreLaws.{Entry, Run, ChangesTimeline, TakesEvent, ChangesCursors}
 use Rattle.hse_rows.specs.Isolation.{IsIsolated, AreIsolated}
@@ -74,17 +74,18 @@ for_some_cursors : {X : Type 0} (m : Core) (looked_up : Option X) (leads_to : X 
 for_some_cursors m None leads_to each = refl
 for_some_cursors m (Some x) leads_to each = each x
 
+install_keeps : (m : Core) (id : ℕ) → Keeps m (taking_install m id)
+install_keeps m id = for_some_keeps m (job_of m.jobs id) _ (λ job. record { timeline = refl; cursors = refl })
+
 taking_keeps : (m : Core) (wish : TurnWish) → (TakesEvent wish → ⊥) → (taking m wish).timeline ≡ m.timeline
 taking_keeps m sync other = refl
 taking_keeps m freeze other = refl
-taking_keeps m (install id) other = (for_some_keeps m (job_of m.jobs id) _ (λ job. record { timeline = refl; cursors = refl })).timeline
 taking_keeps m (create name mode prefix) other = absurd (other tt)
 taking_keeps m (drop name) other = absurd (other tt)
 
 taking_keeps_cursors : (m : Core) (wish : TurnWish) → (taking m wish).cursors ≡ m.cursors
 taking_keeps_cursors m sync = refl
 taking_keeps_cursors m freeze = refl
-taking_keeps_cursors m (install id) = for_some_cursors m (job_of m.jobs id) _ (λ job. refl)
 taking_keeps_cursors m (create name mode prefix) = refl
 taking_keeps_cursors m (drop name) = for_some_cursors m (store_named (now m) name) _ (λ store. refl)
 
@@ -95,6 +96,7 @@ done_keeps m (commit order) other = absurd (other tt)
 done_keeps m (abort order) other = absurd (other tt)
 done_keeps m reopen other = absurd (other tt)
 done_keeps m (take wish) other = taking_keeps m wish other
+done_keeps m (take_install id) other = (install_keeps m id).timeline
 done_keeps m (get actor name key) other = refl
 done_keeps m list_stores other = refl
 done_keeps m (tree name) other = refl
@@ -173,7 +175,6 @@ module _ (m : Core) where
   taking_goes : (wish : TurnWish) → refusal m (take wish) ≡ None → GoesTo (taking m wish)
   taking_goes sync none = stays
   taking_goes freeze none = stays
-  taking_goes (install id) none = at_rest (taking m (install id)) (taking_keeps m (install id) (λ e. e))
   taking_goes (create name mode prefix) none =
       moves (move.create name mode prefix) (not_found (store_named (now m) name) (passes (is_some (store_named (now m) name)) replies.store_exists _ none).0)
   taking_goes (drop name) none = drop_goes name none
@@ -189,6 +190,7 @@ module _ (m : Core) where
   done_goes (commit order) none = commit_goes order none
   done_goes (abort order) none = moves (move.abort order) (is_there m order (λ transaction. None) none)
   done_goes (take wish) none = taking_goes wish none
+  done_goes (take_install id) none = at_rest (taking_install m id) (install_keeps m id).timeline
   done_goes reopen none = stays
   done_goes (get actor name key) none = stays
   done_goes list_stores none = stays
@@ -255,6 +257,7 @@ done_keeps_cursors m (commit order) other = for_some_cursors m (transaction_of m
 done_keeps_cursors m (abort order) other = refl
 done_keeps_cursors m reopen other = absurd (other tt)
 done_keeps_cursors m (take wish) other = taking_keeps_cursors m wish
+done_keeps_cursors m (take_install id) other = (install_keeps m id).cursors
 done_keeps_cursors m (get actor name key) other = refl
 done_keeps_cursors m list_stores other = refl
 done_keeps_cursors m (tree name) other = refl

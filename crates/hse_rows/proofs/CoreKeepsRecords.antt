@@ -1,82 +1,21 @@
 -- Log and manifest have what happened, in every run.
 use Rattle.std.specs.List.{AllByRecursion}
-use Rattle.std.proofs.Common.{◌≡◌, ℕ, ◌+◌, List, [], ◌∷◌, Option, Some, None, refl, sym, ◌∙◌, ap, subst, arith}
-use Rattle.hse_rows.specs.declared.write.Write.{Write}
-use Rattle.hse_rows.specs.State.{store_named}
-use Rattle.hse_rows.specs.Transaction.{Transaction}
-use Rattle.hse_rows.specs.Moves.{Move}
-use Rattle.hse_rows.specs.Moves as move
-use Rattle.hse_rows.specs.Timeline.{Timeline, transaction_of, snapshot_of, for_some, committing, moved}
-use Rattle.hse_rows.specs.Job.{job_of}
-use Rattle.hse_rows.specs.Turn.{TurnWish, sync, freeze, install, create, drop}
+use Rattle.std.proofs.Common.{◌≡◌, ℕ, ◌+◌, List, [], ◌∷◌, None, refl, sym, ◌∙◌, ap, subst, arith}
+use Rattle.hse_rows.specs.Timeline.{Timeline}
 use Rattle.hse_rows.specs.Replies as replies
 use Rattle.hse_rows.specs.Replies.{Answer}
-use Rattle.hse_rows.specs.Calls.{outside, inside, Call, begin, write_by, get, commit, abort, list_stores, tree, info, take_place, give_place, pick, build, drop_job, next_job, take, write_turn, end_turn, reopen}
-use Rattle.hse_rows.specs.Core.{Core, Stored, life, now}
+use Rattle.hse_rows.specs.Calls.{Call, write_turn, reopen}
+use Rattle.hse_rows.specs.Core.{Core, Stored, life}
 use Rattle.hse_rows.specs.CoreRefusal.{refusal}
-use Rattle.hse_rows.specs.CoreDone.{done, refused_to, failing, taking}
+use Rattle.hse_rows.specs.CoreDone.{done, refused_to, failing}
 use Rattle.hse_rows.specs.CoreStep.{Found, loads, breaks_off, has_version, Reopens, Step}
 use Rattle.hse_rows.specs.CoreLaws.{Entry, Run, stored_by, stored_in, LoadsInOrder}
 use Rattle.hse_rows.specs.Recorded.{above, AreLayers, CommitsUpTo, commits_of, IsRecorded, IsInOrder}
 use Rattle.hse_rows.proofs.CoreAnswers.{IsOther}
-use Rattle.hse_rows.proofs.CoreGoes.{done_keeps, refused_keeps, failing_keeps}
+use Rattle.hse_rows.proofs.CoreGoes.{refused_keeps, failing_keeps}
+use Rattle.hse_rows.proofs.StandLemmas.{done_base}
 use Rattle.hse_rows.proofs.CoreRecords.{none_added, InLog, done_recorded, refused_recorded}
 use Rattle.hse_rows.proofs.ManifestRecords.{all_above, InManifest, done_kept, refused_kept, failing_kept}
-
--- ---- the base stays
-
-found_base : {X : Type 0} (m : Core) (it : Option X) (leads_to : X → Core) → ((x : X) → (leads_to x).timeline.base ≡ m.timeline.base)
-    → (for_some it m leads_to).timeline.base ≡ m.timeline.base
-found_base m None leads_to each = refl
-found_base m (Some x) leads_to each = each x
-
-transaction_base : (t : Timeline) (it : Option Transaction) (leads_to : Transaction → Timeline) → ((x : Transaction) → (leads_to x).base ≡ t.base)
-    → (for_some it t leads_to).base ≡ t.base
-transaction_base t None leads_to each = refl
-transaction_base t (Some x) leads_to each = each x
-
-committing_base : (t : Timeline) (order : ℕ) (transaction : Transaction) (writes : List Write) → (committing t order transaction writes).base ≡ t.base
-committing_base t order transaction [] = refl
-committing_base t order transaction (write ∷ writes) = refl
-
-moved_base : (t : Timeline) (one : Move) → (moved t one).base ≡ t.base
-moved_base t move.begin = refl
-moved_base t (move.write_in order write) = transaction_base t (transaction_of t order) _ (λ x. refl)
-moved_base t (move.write_out write) = refl
-moved_base t (move.commit order) = transaction_base t (transaction_of t order) _ (λ x. committing_base t order x x.writes)
-moved_base t (move.abort order) = transaction_base t (transaction_of t order) _ (λ x. refl)
-moved_base t (move.create name mode prefix) = refl
-moved_base t (move.remove id) = refl
-
-taking_base : (m : Core) (wish : TurnWish) → (taking m wish).timeline.base ≡ m.timeline.base
-taking_base m sync = refl
-taking_base m freeze = refl
-taking_base m (install id) = found_base m (job_of m.jobs id) _ (λ job. refl)
-taking_base m (create name mode prefix) = refl
-taking_base m (drop name) = found_base m (store_named (now m) name) _ (λ store. refl)
-
-done_base : (m : Core) (call : Call) → (done m call).timeline.base ≡ m.timeline.base
-done_base m begin = refl
-done_base m (write_by outside name change) = found_base m (store_named (now m) name) _ (λ store. refl)
-done_base m (write_by (inside order) name change) =
-    found_base m (transaction_of m.timeline order) _ (λ transaction.
-    found_base m (store_named (snapshot_of m.timeline transaction) name) _ (λ store. moved_base m.timeline (move.write_in order _)))
-done_base m (commit order) = found_base m (transaction_of m.timeline order) _ (λ transaction. moved_base m.timeline (move.commit order))
-done_base m (abort order) = moved_base m.timeline (move.abort order)
-done_base m (take wish) = taking_base m wish
-done_base m reopen = refl
-done_base m (get actor name key) = refl
-done_base m list_stores = refl
-done_base m (tree name) = refl
-done_base m info = refl
-done_base m take_place = refl
-done_base m give_place = refl
-done_base m (pick wish) = ap (λ (t : Timeline). t.base) (done_keeps m (pick wish) (λ e. e))
-done_base m (build id) = ap (λ (t : Timeline). t.base) (done_keeps m (build id) (λ e. e))
-done_base m (drop_job id) = refl
-done_base m next_job = refl
-done_base m write_turn = refl
-done_base m end_turn = ap (λ (t : Timeline). t.base) (done_keeps m end_turn (λ e. e))
 
 -- ---- both halves
 

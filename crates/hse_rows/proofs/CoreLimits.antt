@@ -1,23 +1,24 @@
 -- Calls that nothing refuses keep within the limits.
-use Rattle.std.proofs.Common.{◌≡◌, ℕ, ◌≤◌, nat_lt, nat_le, Bool, true, false, length, None, is_some, refl, sym, subst, arith}
+use Rattle.std.specs.List.{AllByRecursion}
+use Rattle.std.proofs.Common.{◌≡◌, ℕ, ◌≤◌, nat_lt, nat_le, Bool, true, false, List, [], ◌∷◌, length, None, is_some, refl, sym, subst, arith}
 use Rattle.hse_rows.specs.State.{store_named}
 use Rattle.hse_rows.specs.History.{creates, drops}
 use Rattle.hse_rows.specs.Moves as move
 use Rattle.hse_rows.specs.Timeline.{snapshot_of, committing, moved}
 use Rattle.hse_rows.specs.ManifestRoom.{ManifestState, fits}
 use Rattle.hse_rows.specs.Job.{live_ingest, first_on, is_picked, is_built}
-use Rattle.hse_rows.specs.Turn.{TurnWish, sync, freeze, install, create, drop, Plan, settles, enters, removes, installs, TakenTurn, Turn, home, taken, ran}
+use Rattle.hse_rows.specs.Turn.{TurnWish, sync, freeze, create, drop, Plan, settles, enters, removes, installs, TakenTurn, Turn, home, taken, ran}
 use Rattle.hse_rows.specs.Turn as turns
 use Rattle.hse_rows.specs.Replies as replies
 use Rattle.hse_rows.specs.Replies.{Refusal, Answer}
-use Rattle.hse_rows.specs.Calls.{outside, inside, Call, begin, write_by, get, commit, abort, list_stores, tree, info, take_place, give_place, pick, build, drop_job, next_job, take, write_turn, end_turn, reopen}
-use Rattle.hse_rows.specs.Core.{Core, life, now, number_of, write_to, with_move, longest_prefix}
+use Rattle.hse_rows.specs.Calls.{outside, inside, Call, begin, write_by, get, commit, abort, list_stores, tree, info, take_place, give_place, pick, build, drop_job, next_job, take, take_install, write_turn, end_turn, reopen}
+use Rattle.hse_rows.specs.Core.{Core, Stored, life, now, number_of, write_to, with_move, longest_prefix}
 use Rattle.hse_rows.specs.ManifestEntry.{ManifestEntry, entered, creation_entry, drop_entry, install_entry}
 use Rattle.hse_rows.specs.CoreRefusal.{refusal, refuse, is_spent, outside_refusal, inside_refusal, commit_refusal, is_log_busy, install_refusal, drop_refusal, take_refusal, first_in_store}
-use Rattle.hse_rows.specs.CoreDone.{done, refused_to, failing, without_job, building, log_with, frozen_log, with_installing, taking, planned, ending, ending_failed, given_up}
+use Rattle.hse_rows.specs.CoreDone.{taking_install, done, refused_to, failing, without_job, building, log_with, frozen_log, with_installing, taking, planned, ending, ending_failed, given_up}
 use Rattle.hse_rows.specs.Limits.{ManifestFits, PlanFits, TurnFits, IsWithinLimits}
 use Rattle.hse_rows.specs.CoreStep.{Found, loads, breaks_off, has_version, Reopens, Step}
-use Rattle.hse_rows.specs.CoreLaws.{LoadsWithinLimits}
+use Rattle.hse_rows.specs.CoreLaws.{Entry, Run, LoadsWithinLimits}
 use Rattle.hse_rows.proofs.PassLemmas.{passes, not_busy, not_busy_with, not_held, found, found_transaction, found_job, is_there}
 use Rattle.hse_rows.proofs.FitLemmas.{creation_fits, drop_fits, entered_fits, frozen_fits, log_after_fits}
 use Rattle.hse_rows.proofs.CoreFits.{abort_within, at_transaction, begin_within, building_within, committing_within, give_place_within, install_entry_fits, installing_within, one_more, outside_within, picking_within, take_place_within, up_to_now, up_to_safe, with_log, with_turn_within, without_within, write_in_within}
@@ -33,12 +34,6 @@ module _ (m : Core) (good : IsWithinLimits m) where
       with_log m good (frozen_log m.log (number_of m)) (frozen_fits m.sizes m.log (number_of m) good.log free.0) in
       with_turn_within (record m { log = frozen_log m.log (number_of m) }) there _ m.is_broken
       (up_to_now (record m { log = frozen_log m.log (number_of m) }) there settles tt)
-  taking_within (install id) none =
-      found_job IsWithinLimits m id is_built (install_refusal m) _
-      (λ job is passed.
-      with_turn_within (with_installing m job) (installing_within m good job passed) _ m.is_broken
-      (up_to_safe (with_installing m job) (installing_within m good job passed)
-      (installs id job.work job.sets (entered m (install_entry m job.work job.sets))) (install_entry_fits m good job passed))) none
   taking_within (create name mode prefix) none =
       let first = passes (is_some (store_named (now m) name)) replies.store_exists _ none in
       let second = passes (nat_lt longest_prefix prefix) (replies.prefix_length prefix) _ first.1 in
@@ -67,6 +62,14 @@ module _ (m : Core) (good : IsWithinLimits m) where
       let entry : ManifestEntry = drop_entry m store in
       with_turn_within (with_move m (move.remove store.id)) there _ m.is_broken
       (up_to_now (with_move m (move.remove store.id)) there (removes store.id (entered m entry)) (entered_fits m entry good.manifest sixth.1))) none
+
+  install_within : (id : ℕ) → refusal m (take_install id) ≡ None → IsWithinLimits (taking_install m id)
+  install_within id none =
+      found_job IsWithinLimits m id is_built (install_refusal m) _
+      (λ job is passed.
+      with_turn_within (with_installing m job) (installing_within m good job passed) _ m.is_broken
+      (up_to_safe (with_installing m job) (installing_within m good job passed)
+      (installs id job.work job.sets (entered m (install_entry m job.work job.sets))) (install_entry_fits m good job passed))) none
 
   written_within : (has_failed is_broken : Bool) (turn : Turn) → m.turn ≡ turn → IsWithinLimits (record m { turn = turns.written turn has_failed; is_broken = is_broken })
   written_within has_failed is_broken turn is =
@@ -169,6 +172,7 @@ module _ (m : Core) (good : IsWithinLimits m) where
   failing_within (drop_job id) = broken_within
   failing_within next_job = broken_within
   failing_within (take wish) = broken_within
+  failing_within (take_install id) = broken_within
   failing_within end_turn = broken_within
   failing_within reopen = broken_within
 
@@ -207,6 +211,7 @@ module _ (m : Core) (good : IsWithinLimits m) where
   done_within (drop_job id) none = without_within m good id
   done_within next_job none = good
   done_within (take wish) none = taking_within wish none
+  done_within (take_install id) none = install_within id none
   done_within write_turn none = written_within false m.is_broken m.turn refl
   done_within end_turn none = ending_within m.turn refl
   done_within reopen none = good
@@ -234,3 +239,15 @@ step_keeps_limits found old new write_turn replies.device_fault good loaded step
 step_keeps_limits found old new call replies.device_fault good loaded step = absurd step
 step_keeps_limits found old new call (replies.refused reason) good loaded step = same_limits (refused_to old call) new step.1 (refused_within old good call)
 step_keeps_limits found old new call answer good loaded step = same_limits (done old call) new step.2 (done_within old good call step.0)
+
+-- ---- runs
+
+run_within : (old : Core) (entries : List Entry) (new : Core) → AllByRecursion (λ entry. LoadsWithinLimits entry.found) entries → IsWithinLimits old
+    → Run old entries new → IsWithinLimits new
+run_within old [] new loaded good run = same_limits old new run good
+run_within old (entry ∷ entries) new loaded good run =
+    run_within run.0 entries new loaded.1 (step_keeps_limits entry.found old run.0 entry.call entry.answer good loaded.0 run.1) run.2
+
+pub runs_keep_limits : (stored : Stored) (entries : List Entry) (new : Core) → IsWithinLimits (life stored)
+    → AllByRecursion (λ entry. LoadsWithinLimits entry.found) entries → Run (life stored) entries new → IsWithinLimits new
+runs_keep_limits stored entries new good loaded run = run_within (life stored) entries new loaded good run

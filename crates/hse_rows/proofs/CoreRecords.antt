@@ -9,8 +9,8 @@ use Rattle.hse_rows.specs.Moves as move
 use Rattle.hse_rows.specs.Timeline.{Timeline, transaction_of, snapshot_of, for_some, committing}
 use Rattle.hse_rows.specs.Log.{LogState, Frozen, Numbered, logged}
 use Rattle.hse_rows.specs.Job.{JobWish, ingest, of_run, Work, ingesting, on_run, job_of}
-use Rattle.hse_rows.specs.Turn.{TurnWish, sync, freeze, install, create, drop, Plan, settles, enters, removes, installs, Turn, home, taken, ran}
-use Rattle.hse_rows.specs.Calls.{outside, inside, Call, begin, write_by, get, commit, abort, list_stores, tree, info, take_place, give_place, pick, build, drop_job, next_job, take, write_turn, end_turn, reopen}
+use Rattle.hse_rows.specs.Turn.{TurnWish, sync, freeze, create, drop, Plan, settles, enters, removes, installs, Turn, home, taken, ran}
+use Rattle.hse_rows.specs.Calls.{outside, inside, Call, begin, write_by, get, commit, abort, list_stores, tree, info, take_place, give_place, pick, build, drop_job, next_job, take, take_install, write_turn, end_turn, reopen}
 use Rattle.hse_rows.specs.Core.{Core, now, number_of, oldest, write_to, with_move}
 use Rattle.hse_rows.specs.CoreDone.{done, refused_to, log_with, frozen_log, taking, without_oldest, oldest_gone, log_after, picking, building, planned, ending, ending_failed, given_up}
 use Rattle.hse_rows.specs.Recorded.{commits_in, CommitsUpTo, AreLayers, frozen_commits, commits_of, Records}
@@ -193,7 +193,6 @@ module _ (before : List Numbered) (m : Core) (good : InLog before m) where
   taking_recorded : (wish : TurnWish) → InLog before (taking m wish)
   taking_recorded sync = good
   taking_recorded freeze = frozen_recorded before m.log m.timeline.base m.timeline.history good
-  taking_recorded (install id) = looked_up (job_of m.jobs id) _ (λ job. good)
   taking_recorded (create name mode prefix) = other_recorded before m.log m.timeline.base m.timeline.history good (creates name mode prefix) refl
   taking_recorded (drop name) =
       looked_up (store_named (now m) name) _ (λ store. other_recorded before m.log m.timeline.base m.timeline.history good (drops store.id) refl)
@@ -249,6 +248,7 @@ module _ (before : List Numbered) (m : Core) (good : InLog before m) where
   done_recorded (drop_job id) = good
   done_recorded next_job = good
   done_recorded (take wish) = taking_recorded wish
+  done_recorded (take_install id) = looked_up (job_of m.jobs id) _ (λ job. good)
   done_recorded write_turn = good
   done_recorded end_turn = ending_recorded m.turn
   done_recorded reopen = good

@@ -1,17 +1,14 @@
 -- Each line has one answer but for want of memory and device faults, and an answer leads one way.
-use Rattle.std.proofs.Common.{◌≡◌, ◌≢◌, ◌⊎◌, inl, inr, ℕ, Bool, true, false, cond, List, Option, Some, None, is_some, refl, sym, ◌∙◌, ap}
-use Rattle.std.specs.FinMap as fin_map
-use Rattle.hse_rows.specs.State.{State, store_named}
-use Rattle.hse_rows.specs.Transaction.{read_of}
-use Rattle.hse_rows.specs.Timeline.{for_some, transaction_of}
+use Rattle.std.proofs.Common.{◌≡◌, ◌≢◌, inl, inr, ℕ, Bool, true, false, cond, List, Option, Some, None, is_some, refl, sym, ◌∙◌, ap}
+use Rattle.hse_rows.specs.Timeline.{for_some}
 use Rattle.hse_rows.specs.Cursor.{Pair, read_by, sought, sought_range, found_by}
-use Rattle.hse_rows.specs.Job.{JobWish, job_of}
-use Rattle.hse_rows.specs.Turn.{TurnWish, Turn, home, taken, ran, install}
+use Rattle.hse_rows.specs.Job.{JobWish}
+use Rattle.hse_rows.specs.Turn.{Turn, home, taken, ran}
 use Rattle.hse_rows.specs.Replies as replies
 use Rattle.hse_rows.specs.Replies.{Refusal, Answer}
 use Rattle.hse_rows.specs.Calls.{inside, outside, Call}
 use Rattle.hse_rows.specs.Calls as call
-use Rattle.hse_rows.specs.Core.{Core, now}
+use Rattle.hse_rows.specs.Core.{Core}
 use Rattle.hse_rows.specs.CoreRefusal.{unless_busy}
 use Rattle.hse_rows.specs.CoreReply.{value_in, found_value, next_reply, end_reply}
 use Rattle.hse_rows.specs.CoreReply as replied
@@ -24,6 +21,8 @@ use Rattle.hse_rows.specs.ScriptRefusal.{refusal, asked, with_built}
 use Rattle.hse_rows.specs.ScriptDone.{reply, done, refused_to, once_picked, job_refused, answered, key_reply, pair_reply, turn_reply, job_reply}
 use Rattle.hse_rows.specs.ScriptDone as scripts
 use Rattle.hse_rows.specs.ScriptStep.{LacksMemory, Reopens, Step, opening_answer, refused_or, answer_of, led_to}
+use Rattle.hse_rows.specs.ScriptLaws.{PicksJob, Leaves}
+use Rattle.hse_rows.proofs.CoreAnswers.{IsReply, found_reply, call_reply}
 
 -- ---- where an answer leads
 
@@ -47,49 +46,46 @@ line_leads found old new line answer full step = step.2
 
 -- ---- what changes nothing
 
-abbrev Stays : Script → Script → Type 0
-Stays old new = (new ≡ old) ⊎ (new ≡ once_picked old)
-
-job_stays : (s new : Script) (wish : JobWish) → new ≡ job_refused s wish → Stays s new
-job_stays s new wish = by (is_some (asked s (call.pick wish)))
+job_leaves : (s new : Script) (line : Line) (wish : JobWish) → PicksJob line → new ≡ job_refused s wish → Leaves line s new
+job_leaves s new line wish picks = by (is_some (asked s (call.pick wish)))
   where
-    by : (b : Bool) → new ≡ cond b s (once_picked s) → Stays s new
+    by : (b : Bool) → new ≡ cond b s (once_picked s) → Leaves line s new
     by true is = inl is
-    by false is = inr is
+    by false is = inr (picks, is)
 
-auto_stays : (s new : Script) (it : Option JobWish) → new ≡ for_some it s (job_refused s) → Stays s new
-auto_stays s new None is = inl is
-auto_stays s new (Some wish) is = job_stays s new wish is
+auto_leaves : (s new : Script) (it : Option JobWish) → new ≡ for_some it s (job_refused s) → Leaves auto s new
+auto_leaves s new None is = inl is
+auto_leaves s new (Some wish) is = job_leaves s new auto wish tt is
 
-lacking_stays : (old new : Script) (line : Line) → LacksMemory old line new → Stays old new
-lacking_stays old new (job wish) (inl is) = inl is
-lacking_stays old new (job wish) (inr is) = job_stays old new wish is
-lacking_stays old new auto (inl is) = inl is
-lacking_stays old new auto (inr is) = auto_stays old new (next_wish old.core) is
-lacking_stays old new line is = inl is
+lacking_leaves : (old new : Script) (line : Line) → LacksMemory old line new → Leaves line old new
+lacking_leaves old new (job wish) (inl is) = inl is
+lacking_leaves old new (job wish) (inr is) = job_leaves old new (job wish) wish tt is
+lacking_leaves old new auto (inl is) = inl is
+lacking_leaves old new auto (inr is) = auto_leaves old new (next_wish old.core) is
+lacking_leaves old new line is = inl is
 
-pub memory_stays : (found : Found) (old new : Script) (line : Line) → Step found old line replies.no_memory new → Stays old new
-memory_stays found old new silent step = absurd step
-memory_stays found old new line step = lacking_stays old new line step
+pub memory_leaves : (found : Found) (old new : Script) (line : Line) → Step found old line replies.no_memory new → Leaves line old new
+memory_leaves found old new silent step = absurd step
+memory_leaves found old new line step = lacking_leaves old new line step
 
-refused_stays : (s new : Script) (line : Line) → line ≢ end_turn → new ≡ refused_to s line → Stays s new
-refused_stays s new end_turn other is = absurd (other refl)
-refused_stays s new (job wish) other is = job_stays s new wish is
-refused_stays s new auto other is = auto_stays s new (next_wish s.core) is
-refused_stays s new line other is = inl is
+refused_leaves : (s new : Script) (line : Line) → line ≢ end_turn → new ≡ refused_to s line → Leaves line s new
+refused_leaves s new end_turn other is = absurd (other refl)
+refused_leaves s new (job wish) other is = job_leaves s new (job wish) wish tt is
+refused_leaves s new auto other is = auto_leaves s new (next_wish s.core) is
+refused_leaves s new line other is = inl is
 
-reopening_stays : (found : Found) (old new : Script) (reason : Refusal (List ℕ)) → Reopens found old (replies.refused reason) new → Stays old new
-reopening_stays (loads stored) old new reason step = absurd step
-reopening_stays (breaks_off part place) old new (replies.not_formed at_part at_place) step = inl step.2
-reopening_stays (has_version version) old new (replies.other_version told) step = inl step.1
-reopening_stays found old new reason step = absurd step
+reopening_leaves : (found : Found) (old new : Script) (reason : Refusal (List ℕ)) → Reopens found old (replies.refused reason) new → Leaves reopen old new
+reopening_leaves (loads stored) old new reason step = absurd step
+reopening_leaves (breaks_off part place) old new (replies.not_formed at_part at_place) step = inl step.2
+reopening_leaves (has_version version) old new (replies.other_version told) step = inl step.1
+reopening_leaves found old new reason step = absurd step
 
-pub refusal_stays : (found : Found) (old new : Script) (line : Line) (reason : Refusal (List ℕ)) → line ≢ end_turn
-    → Step found old line (replies.refused reason) new → Stays old new
-refusal_stays found old new silent reason other step = absurd step
-refusal_stays found old new reopen (replies.busy kind) other step = inl step.1
-refusal_stays found old new reopen reason other step = reopening_stays found old new reason step.1
-refusal_stays found old new line reason other step = refused_stays old new line other step.1
+pub refusal_leaves : (found : Found) (old new : Script) (line : Line) (reason : Refusal (List ℕ)) → line ≢ end_turn
+    → Step found old line (replies.refused reason) new → Leaves line old new
+refusal_leaves found old new silent reason other step = absurd step
+refusal_leaves found old new reopen (replies.busy kind) other step = inl step.1
+refusal_leaves found old new reopen reason other step = reopening_leaves found old new reason step.1
+refusal_leaves found old new line reason other step = refused_leaves old new line other step.1
 
 -- ---- one answer
 
@@ -120,47 +116,6 @@ answer_is found old new line answer full met step = step.1 ∙ known (refusal ol
 
 -- ---- each line has its answer
 
--- an answer that is no refusal and no want
-abbrev IsReply : {X : Type 0} → Answer X → Type 0
-IsReply (replies.refused reason) = ⊥
-IsReply replies.no_memory = ⊥
-IsReply replies.device_fault = ⊥
-IsReply answer = Unit {0}
-
-found_reply : {X Y : Type 0} (looked_up : Option X) (otherwise : Answer Y) (of_it : X → Answer Y) → IsReply otherwise → ((x : X) → IsReply (of_it x))
-    → IsReply (for_some looked_up otherwise of_it)
-found_reply None otherwise of_it plain each = plain
-found_reply (Some x) otherwise of_it plain each = each x
-
-value_reply : (held : Option (List ℕ)) → IsReply (found_value held)
-value_reply None = tt
-value_reply (Some bytes) = tt
-
-value_in_reply : (state : State) (name key : List ℕ) → IsReply (value_in state name key)
-value_in_reply state name key = found_reply (store_named state name) replies.none _ tt (λ store. value_reply (fin_map.get store.contents key))
-
-next_is_reply : (wish : Option JobWish) → IsReply (next_reply wish)
-next_is_reply None = tt
-next_is_reply (Some wish) = tt
-
-end_is_reply : (out : Turn) → IsReply (end_reply out)
-end_is_reply home = tt
-end_is_reply (taken t) = tt
-end_is_reply (ran t has_failed) = tt
-
-call_reply : (m : Core) (c : Call) → IsReply (replied.reply m c)
-call_reply m (call.get outside name key) = value_in_reply (now m) name key
-call_reply m (call.get (inside order) name key) =
-    found_reply (transaction_of m.timeline order) replies.none _ tt (λ transaction. value_in_reply (read_of m.timeline.base m.timeline.history transaction) name key)
-call_reply m (call.commit order) = found_reply (transaction_of m.timeline order) replies.accepted _ tt (λ transaction. tt)
-call_reply m (call.tree name) = found_reply (store_named (now m) name) replies.accepted _ tt (λ store. tt)
-call_reply m (call.build id) = found_reply (job_of m.jobs id) replies.accepted _ tt (λ job. tt)
-call_reply m call.next_job = next_is_reply (next_wish m)
-call_reply m call.end_turn = end_is_reply m.turn
-call_reply m (call.write_by outside name change) = tt
-call_reply m (call.write_by (inside order) name change) = tt
-call_reply m c = tt
-
 named_reply : (s : Script) (answer : Answer ℕ) → IsReply answer → IsReply (answer_named s answer)
 named_reply s (replies.refused reason) plain = absurd plain
 named_reply s replies.no_memory plain = absurd plain
@@ -178,11 +133,11 @@ pair_is_reply : (pair : Option Pair) → IsReply (pair_reply pair)
 pair_is_reply None = tt
 pair_is_reply (Some found) = tt
 
-turn_is_reply : (s : Script) (m : Core) (wish : TurnWish) → IsReply (answer_named s (turn_reply m wish))
-turn_is_reply s m wish = named_reply s (turn_reply m wish) (call_reply (scripts.ran m wish) call.end_turn)
+turn_is_reply : (s : Script) (m : Core) (first : Call) → IsReply (answer_named s (turn_reply m first))
+turn_is_reply s m first = named_reply s (turn_reply m first) (call_reply (scripts.ran m first) call.end_turn)
 
 job_is_reply : (s : Script) (wish : JobWish) → IsReply (job_reply s wish)
-job_is_reply s wish = turn_is_reply s (with_built s.core wish) (install s.core.picked)
+job_is_reply s wish = turn_is_reply s (with_built s.core wish) (call.take_install s.core.picked)
 
 line_reply : (s : Script) (line : Line) → IsReply (reply s line)
 line_reply s (begin name) = tt
@@ -200,7 +155,7 @@ line_reply s (read name) = found_reply (cursor_named s name) replies.accepted _ 
 line_reply s (build name) = found_reply (job_named s name) replies.accepted _ tt (λ id. answered_reply s (call.build id))
 line_reply s next_job = answered_reply s call.next_job
 line_reply s end_turn = answered_reply s call.end_turn
-line_reply s (turn wish) = turn_is_reply s s.core wish
+line_reply s (turn wish) = turn_is_reply s s.core (call.take wish)
 line_reply s (job wish) = job_is_reply s wish
 line_reply s auto = found_reply (next_wish s.core) replies.none _ tt (job_is_reply s)
 line_reply s line = tt

@@ -5,7 +5,6 @@ use Rattle.hse_rows.specs.Transaction.{TransactionState, active, committed, abor
 use Rattle.hse_rows.specs.Timeline.{for_some, transaction_of}
 use Rattle.hse_rows.specs.Cursor.{Direction}
 use Rattle.hse_rows.specs.Job.{JobWish}
-use Rattle.hse_rows.specs.Turn.{install}
 use Rattle.hse_rows.specs.Replies as replies
 use Rattle.hse_rows.specs.Replies.{Refusal, Answer}
 use Rattle.hse_rows.specs.Calls.{inside, outside, Call}
@@ -23,7 +22,7 @@ use Rattle.hse_rows.specs.ScriptStep.{CallsForSome, MayFail}
 use Rattle.hse_rows.specs.ScriptCalls.{Leads, turn_calls, calls_of}
 use Rattle.hse_rows.proofs.CoreAnswers.{IsOther}
 use Rattle.hse_rows.proofs.ScriptGoes.{not_told, passed}
-use Rattle.hse_rows.proofs.ScriptRuns.{one, turn_led, turn_failed_led, built_first}
+use Rattle.hse_rows.proofs.ScriptRuns.{take_takes, install_takes, one, turn_led, turn_failed_led, built_first}
 
 -- ---- lines
 
@@ -99,17 +98,17 @@ module _ (f : Found) (s : Script) where
     job_led wish none =
         let both = both_pass (asked s (call.pick wish)) _ none in
         built_first f s.core numbered wish (not_told s (core.refusal s.core (call.pick wish)) both.0)
-        (turn_calls (install s.core.picked)) (turned (with_built s.core wish) (install s.core.picked))
-        (turn_led f (with_built s.core wish) (install s.core.picked)
-        (not_told s (core.refusal (with_built s.core wish) (call.take (install s.core.picked))) both.1))
+        (turn_calls (call.take_install s.core.picked)) (turned (with_built s.core wish) (call.take_install s.core.picked))
+        (turn_led f (with_built s.core wish) (call.take_install s.core.picked)
+        (install_takes (with_built s.core wish) s.core.picked (not_told s (core.refusal (with_built s.core wish) (call.take_install s.core.picked)) both.1)))
 
     job_failed_led : (wish : JobWish) → MayFail s (job wish) → job_refusal s wish ≡ None → Leads f s.core (calls_of s (job wish)) (failing s (job wish)).core
     job_failed_led wish calls none =
         let both = both_pass (asked s (call.pick wish)) _ none in
         built_first f s.core numbered wish (not_told s (core.refusal s.core (call.pick wish)) both.0)
-        (turn_calls (install s.core.picked)) (turn_failed (with_built s.core wish) (install s.core.picked))
-        (turn_failed_led f (with_built s.core wish) (install s.core.picked)
-        (not_told s (core.refusal (with_built s.core wish) (call.take (install s.core.picked))) both.1) calls)
+        (turn_calls (call.take_install s.core.picked)) (turn_failed (with_built s.core wish) (call.take_install s.core.picked))
+        (turn_failed_led f (with_built s.core wish) (call.take_install s.core.picked)
+        (install_takes (with_built s.core wish) s.core.picked (not_told s (core.refusal (with_built s.core wish) (call.take_install s.core.picked)) both.1)) calls)
 
     auto_led : (it : Option JobWish) → for_some it None (job_refusal s) ≡ None
         → Leads f s.core (for_some it [] (λ wish. calls_of s (job wish))) (for_some it s (λ wish. done s (job wish))).core
@@ -145,10 +144,10 @@ module _ (f : Found) (s : Script) where
     line_led (drop_job name) other none = looked_up (job_named s name) replies.no_name _ _ _ (λ id. called (call.drop_job id) tt) none
     line_led next_job other none = called call.next_job tt refl
     line_led (take wish) other none = called (call.take wish) tt none
-    line_led (take_install name) other none = looked_up (job_named s name) replies.no_name _ _ _ (λ id. called (call.take (install id)) tt) none
+    line_led (take_install name) other none = looked_up (job_named s name) replies.no_name _ _ _ (λ id. called (call.take_install id) tt) none
     line_led write_turn other none = called call.write_turn tt none
     line_led end_turn other none = called call.end_turn tt none
-    line_led (turn wish) other none = turn_led f s.core wish (not_told s (core.refusal s.core (call.take wish)) none)
+    line_led (turn wish) other none = turn_led f s.core (call.take wish) (take_takes s.core wish (not_told s (core.refusal s.core (call.take wish)) none))
     line_led (job wish) other none = job_led wish none
     line_led auto other none = auto_led (next_wish s.core) none
     line_led reopen other none = absurd (other refl)
@@ -157,7 +156,7 @@ module _ (f : Found) (s : Script) where
 
     pub line_failed_led : (line : Line) → MayFail s line → refusal s line ≡ None → Leads f s.core (calls_of s line) (failing s line).core
     line_failed_led write_turn calls none = (leads.failing s.core call.write_turn, replies.device_fault, (calls, refl), refl)
-    line_failed_led (turn wish) calls none = turn_failed_led f s.core wish (not_told s (core.refusal s.core (call.take wish)) none) calls
+    line_failed_led (turn wish) calls none = turn_failed_led f s.core (call.take wish) (take_takes s.core wish (not_told s (core.refusal s.core (call.take wish)) none)) calls
     line_failed_led (job wish) calls none = job_failed_led wish calls none
     line_failed_led auto calls none = auto_failed_led (next_wish s.core) calls none
     line_failed_led line calls none = absurd calls

@@ -5,10 +5,9 @@ use Rattle.hse_rows.specs.Transaction.{read_of}
 use Rattle.hse_rows.specs.Timeline.{transaction_of, for_some}
 use Rattle.hse_rows.specs.Cursor.{Direction}
 use Rattle.hse_rows.specs.Job.{JobWish}
-use Rattle.hse_rows.specs.Turn.{TurnWish, install}
 use Rattle.hse_rows.specs.Replies as replies
 use Rattle.hse_rows.specs.Replies.{Answer}
-use Rattle.hse_rows.specs.Calls.{inside, outside}
+use Rattle.hse_rows.specs.Calls.{Call}
 use Rattle.hse_rows.specs.Calls as call
 use Rattle.hse_rows.specs.Core.{Core, now}
 use Rattle.hse_rows.specs.CoreDone as leads
@@ -93,15 +92,15 @@ lines_keep_names found old new line answer step other = names_by old (done old l
 
 -- ---- states and transactions
 
-turned_timeline : (m : Core) (wish : TurnWish) → (turned m wish).timeline ≡ (leads.done m (call.take wish)).timeline
-turned_timeline m wish = done_keeps (ran m wish) call.end_turn (λ e. e)
+turned_timeline : (m : Core) (first : Call) → (turned m first).timeline ≡ (leads.done m first).timeline
+turned_timeline m first = done_keeps (ran m first) call.end_turn (λ e. e)
 
-failed_timeline : (m : Core) (wish : TurnWish) → (turn_failed m wish).timeline ≡ (leads.done m (call.take wish)).timeline
-failed_timeline m wish = (refused_keeps (leads.failing (leads.done m (call.take wish)) call.write_turn) call.end_turn).timeline
+failed_timeline : (m : Core) (first : Call) → (turn_failed m first).timeline ≡ (leads.done m first).timeline
+failed_timeline m first = (refused_keeps (leads.failing (leads.done m first) call.write_turn) call.end_turn).timeline
 
-built_timeline : (m : Core) (wish : JobWish) → (leads.done (with_built m wish) (call.take (install m.picked))).timeline ≡ m.timeline
+built_timeline : (m : Core) (wish : JobWish) → (leads.done (with_built m wish) (call.take_install m.picked)).timeline ≡ m.timeline
 built_timeline m wish =
-    done_keeps (with_built m wish) (call.take (install m.picked)) (λ e. e)
+    done_keeps (with_built m wish) (call.take_install m.picked) (λ e. e)
     ∙ done_keeps (leads.done m (call.pick wish)) (call.build m.picked) (λ e. e)
     ∙ done_keeps m (call.pick wish) (λ e. e)
 
@@ -112,10 +111,10 @@ module _ (s : Script) where
   found_timeline (Some x) leads_to each = each x
 
   job_timeline : (wish : JobWish) → (job_done s wish).core.timeline ≡ s.core.timeline
-  job_timeline wish = turned_timeline (with_built s.core wish) (install s.core.picked) ∙ built_timeline s.core wish
+  job_timeline wish = turned_timeline (with_built s.core wish) (call.take_install s.core.picked) ∙ built_timeline s.core wish
 
   job_failed_timeline : (wish : JobWish) → (job_failed s wish).core.timeline ≡ s.core.timeline
-  job_failed_timeline wish = failed_timeline (with_built s.core wish) (install s.core.picked) ∙ built_timeline s.core wish
+  job_failed_timeline wish = failed_timeline (with_built s.core wish) (call.take_install s.core.picked) ∙ built_timeline s.core wish
 
   opening_timeline : (name : List ℕ) (who : Who) (store : List ℕ) (direction : Direction) (filter : List ℕ)
       → (done s (open_cursor name who store direction filter)).core.timeline ≡ s.core.timeline
@@ -132,13 +131,13 @@ module _ (s : Script) where
   done_timeline (abort name) other = absurd (other tt)
   done_timeline reopen other = absurd (other tt)
   done_timeline (take wish) other = done_keeps s.core (call.take wish) other
-  done_timeline (turn wish) other = turned_timeline s.core wish ∙ done_keeps s.core (call.take wish) other
+  done_timeline (turn wish) other = turned_timeline s.core (call.take wish) ∙ done_keeps s.core (call.take wish) other
   done_timeline (job wish) other = job_timeline wish
   done_timeline auto other = found_timeline (next_wish s.core) (job_done s) job_timeline
   done_timeline (pick name wish) other = done_keeps s.core (call.pick wish) (λ e. e)
   done_timeline (build name) other = found_timeline (job_named s name) _ (λ id. done_keeps s.core (call.build id) (λ e. e))
   done_timeline (drop_job name) other = found_timeline (job_named s name) _ (λ id. refl)
-  done_timeline (take_install name) other = found_timeline (job_named s name) _ (λ id. done_keeps s.core (call.take (install id)) (λ e. e))
+  done_timeline (take_install name) other = found_timeline (job_named s name) _ (λ id. done_keeps s.core (call.take_install id) (λ e. e))
   done_timeline write_turn other = refl
   done_timeline end_turn other = done_keeps s.core call.end_turn (λ e. e)
   done_timeline (open_cursor name who store direction filter) other = opening_timeline name who store direction filter
@@ -162,7 +161,7 @@ module _ (s : Script) where
   refused_timeline line = refl
 
   failing_timeline : (line : Line) → (ChangesTimeline line → ⊥) → (failing s line).core.timeline ≡ s.core.timeline
-  failing_timeline (turn wish) other = failed_timeline s.core wish ∙ done_keeps s.core (call.take wish) other
+  failing_timeline (turn wish) other = failed_timeline s.core (call.take wish) ∙ done_keeps s.core (call.take wish) other
   failing_timeline (job wish) other = job_failed_timeline wish
   failing_timeline auto other = found_timeline (next_wish s.core) (job_failed s) job_failed_timeline
   failing_timeline line other = refl

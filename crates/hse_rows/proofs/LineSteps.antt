@@ -3,7 +3,6 @@ use Rattle.std.specs.List.{AllByRecursion}
 use Rattle.std.proofs.Common.{◌≡◌, ◌≢◌, inl, inr, ℕ, cond, List, [], ◌∷◌, Option, Some, None, is_some, refl, sym, ◌∙◌, ap, subst}
 use Rattle.hse_rows.specs.Timeline.{for_some}
 use Rattle.hse_rows.specs.Job.{JobWish}
-use Rattle.hse_rows.specs.Turn.{TurnWish, install}
 use Rattle.hse_rows.specs.Replies as replies
 use Rattle.hse_rows.specs.Replies.{Refusal, Answer}
 use Rattle.hse_rows.specs.Calls.{Call}
@@ -43,11 +42,11 @@ other c is = (no_reopening c is, tt)
 also : {Rest : Type 0} (c : Call) → IsOther c → Rest → (c ≢ call.reopen) × Rest
 also c is rest = (no_reopening c is, rest)
 
-turn_other : (wish : TurnWish) → AreOther (turn_calls wish)
-turn_other wish = also (call.take wish) tt (also call.write_turn tt (other call.end_turn tt))
+turn_other : (first : Call) → IsOther first → AreOther (turn_calls first)
+turn_other first is = also first is (also call.write_turn tt (other call.end_turn tt))
 
 job_other : (id : ℕ) (wish : JobWish) → AreOther (job_calls id wish)
-job_other id wish = also (call.pick wish) tt (also (call.build id) tt (turn_other (install id)))
+job_other id wish = also (call.pick wish) tt (also (call.build id) tt (turn_other (call.take_install id) tt))
 
 wish_other : (id : ℕ) (it : Option JobWish) → AreOther (for_some it [] (job_calls id))
 wish_other id None = tt
@@ -78,7 +77,7 @@ calls_other s (take wish) apart = other (call.take wish) tt
 calls_other s (take_install name) apart = for_order (job_named s name) _ (λ n. tt)
 calls_other s write_turn apart = other call.write_turn tt
 calls_other s end_turn apart = other call.end_turn tt
-calls_other s (turn wish) apart = turn_other wish
+calls_other s (turn wish) apart = turn_other (call.take wish) tt
 calls_other s (job wish) apart = job_other s.core.picked wish
 calls_other s auto apart = wish_other s.core.picked (next_wish s.core)
 calls_other s reopen apart = absurd (apart refl)
@@ -130,18 +129,18 @@ module _ (f : Found) where
 
     -- a job that is refused
     job_refused_led : (line : Line) (wish : JobWish) (reason : Refusal (List ℕ)) → job_refusal s wish ≡ Some reason → Led line s.core (job_refused s wish).core
-    job_refused_led line wish reason is = by (core.refusal s.core (call.pick wish)) refl (core.refusal (with_built s.core wish) (call.take (install s.core.picked))) refl is
+    job_refused_led line wish reason is = by (core.refusal s.core (call.pick wish)) refl (core.refusal (with_built s.core wish) (call.take_install s.core.picked)) refl is
       where
         by : (first : Option (Refusal ℕ)) → core.refusal s.core (call.pick wish) ≡ first
-            → (second : Option (Refusal ℕ)) → core.refusal (with_built s.core wish) (call.take (install s.core.picked)) ≡ second
+            → (second : Option (Refusal ℕ)) → core.refusal (with_built s.core wish) (call.take_install s.core.picked) ≡ second
             → or_later (told s first) (told s second) ≡ Some reason → Led line s.core (cond (is_some (told s first)) s (once_picked s)).core
         by None first_is None second_is is = absurd cc
         by None first_is (Some later) second_is is = (
-          call.pick wish ∷ call.build s.core.picked ∷ call.take (install s.core.picked) ∷ call.drop_job s.core.picked ∷ [],
+          call.pick wish ∷ call.build s.core.picked ∷ call.take_install s.core.picked ∷ call.drop_job s.core.picked ∷ [],
           refused_led f s.core numbered wish first_is later second_is,
           λ apart.
               also (call.pick wish) tt (also (call.build s.core.picked) tt
-              (also (call.take (install s.core.picked)) tt (other (call.drop_job s.core.picked) tt))),
+              (also (call.take_install s.core.picked) tt (other (call.drop_job s.core.picked) tt))),
         )
         by (Some first) first_is second second_is is = ([], refl, λ apart. tt)
 

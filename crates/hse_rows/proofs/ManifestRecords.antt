@@ -14,13 +14,13 @@ use Rattle.hse_rows.specs.Layout.{NewSet}
 use Rattle.hse_rows.specs.ManifestRoom.{ManifestState, head_bytes, fits}
 use Rattle.hse_rows.specs.ManifestEntry.{ManifestEntry, whole_need, taken_above, entered, creation_entry, drop_entry, install_entry}
 use Rattle.hse_rows.specs.Job.{JobWish, ingest, of_run, Work, ingesting, on_run, Job, job_of, live_ingest, first_on, is_built}
-use Rattle.hse_rows.specs.Turn.{TurnWish, sync, freeze, install, create, drop, Plan, settles, enters, removes, installs, TakenTurn, Turn, home, taken, ran, written}
+use Rattle.hse_rows.specs.Turn.{TurnWish, sync, freeze, create, drop, Plan, settles, enters, removes, installs, TakenTurn, Turn, home, taken, ran, written}
 use Rattle.hse_rows.specs.Turn as turns
 use Rattle.hse_rows.specs.Replies as replies
-use Rattle.hse_rows.specs.Calls.{outside, inside, Call, begin, write_by, get, commit, abort, list_stores, tree, info, take_place, give_place, pick, build, drop_job, next_job, take, write_turn, end_turn, reopen}
+use Rattle.hse_rows.specs.Calls.{outside, inside, Call, begin, write_by, get, commit, abort, list_stores, tree, info, take_place, give_place, pick, build, drop_job, next_job, take, take_install, write_turn, end_turn, reopen}
 use Rattle.hse_rows.specs.Core.{Core, now, number_of, oldest, write_to, with_move}
 use Rattle.hse_rows.specs.CoreRefusal.{refusal, is_spent, first_in_store, entry_refusal, take_refusal, install_refusal, drop_refusal, unless_run_well}
-use Rattle.hse_rows.specs.CoreDone.{done, refused_to, failing, committing_write, with_turn_up_to, with_installing, log_with, frozen_log, taking, oldest_gone, picking, building, planned, ending, ending_failed, given_up}
+use Rattle.hse_rows.specs.CoreDone.{taking_install, done, refused_to, failing, committing_write, with_turn_up_to, with_installing, log_with, frozen_log, taking, oldest_gone, picking, building, planned, ending, ending_failed, given_up}
 use Rattle.hse_rows.specs.Recorded.{taken_in, AreLayers, above, due_by, due, PlanRecords, TurnRecords, BreaksBy}
 use Rattle.hse_rows.proofs.PassLemmas.{passes, not_busy, not_held, not_busy_with, found, found_job}
 use Rattle.hse_rows.proofs.RecordLemmas.{taken_push}
@@ -247,11 +247,6 @@ module _ (before : List ℕ) (m : Core) (good : InManifest before m) where
   taking_kept are freeze none =
       let first = passes m.is_broken replies.broken _ none in
       settled (frozen_log m.log (number_of m)) _ (frozen_horizon m.log (number_of m)) refl (not_busy m.turn _ first.1).0
-  taking_kept are (install id) none =
-      found_job (InManifest before) m id is_built (install_refusal m) _
-      (λ job is passed.
-      let first = passes m.is_broken replies.broken _ passed in
-      install_kept id job (not_busy m.turn _ first.1).0) none
   taking_kept are (create name mode prefix) none =
       let first = passes (is_some (store_named (now m) name)) replies.store_exists _ none in
       let second = passes _ (replies.prefix_length prefix) _ first.1 in
@@ -272,6 +267,13 @@ module _ (before : List ℕ) (m : Core) (good : InManifest before m) where
       let event : Event = drops store.id in
       event_kept _ event _ refl refl are refl
       (entered_taken m (drop_entry m store) ∙ next_taken event) (not_busy m.turn (entry_refusal m (drop_entry m store)) fifth.1).0) none
+
+  taking_install_kept : (id : ℕ) → refusal m (take_install id) ≡ None → InManifest before (taking_install m id)
+  taking_install_kept id none =
+      found_job (InManifest before) m id is_built (install_refusal m) _
+      (λ job is passed.
+      let first = passes m.is_broken replies.broken _ passed in
+      install_kept id job (not_busy m.turn _ first.1).0) none
 
   -- ---- the end of a turn
 
@@ -359,6 +361,7 @@ module _ (before : List ℕ) (m : Core) (good : InManifest before m) where
   done_kept are (drop_job id) none = record { manifest = good.manifest; turn = good.turn; broken = good.broken }
   done_kept are next_job none = good
   done_kept are (take wish) none = taking_kept are wish none
+  done_kept are (take_install id) none = taking_install_kept id none
   done_kept are write_turn none = record {
     manifest = λ whole. ap (λ (l : List ℕ). m.manifest.taken ++ l) (written_due m.turn false) ∙ good.manifest whole;
     turn = written_records (oldest m.log.frozen) m.manifest.taken false m.turn good.turn;

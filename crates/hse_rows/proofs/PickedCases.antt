@@ -6,16 +6,17 @@ use Rattle.hse_rows.specs.NormalForm.{normal_form}
 use Rattle.hse_rows.specs.Newest.{newest}
 use Rattle.hse_rows.specs.Sizes.{Sizes}
 use Rattle.hse_rows.specs.Job.{ingest}
-use Rattle.hse_rows.specs.Turn.{freeze, install, create, Turn, home, taken, ran}
-use Rattle.hse_rows.specs.Replies.{accepted, ok, refused, full, no_run, node_busy}
+use Rattle.hse_rows.specs.Turn.{freeze, create, Turn, home, taken, ran}
+use Rattle.hse_rows.specs.Replies.{accepted, refused, full, node_busy}
 use Rattle.hse_rows.specs.Calls as call
 use Rattle.hse_rows.specs.Core.{formatted, life}
 use Rattle.hse_rows.specs.Recorded.{taken_in, due, IsRecorded, IsInOrder}
-use Rattle.hse_rows.specs.ScriptLines.{write_by, pick, build, take, take_install, write_turn, turn, job, auto}
+use Rattle.hse_rows.specs.ScriptLines.{pick, build, take, take_install, turn, job, auto}
 use Rattle.hse_rows.specs.Script.{Script}
 use Rattle.hse_rows.specs.ScriptDone.{failing, once_picked}
 use Rattle.hse_rows.specs.ScriptStep.{LacksMemory}
 use Rattle.hse_rows.specs.ScriptCalls.{calls_of}
+use Rattle.hse_rows.specs.ScriptLaws.{IsLoadable}
 use Rattle.hse_rows.proofs.RowCases.{device, started, led, answers, put_out, a, b, s, one}
 
 -- ---- jobs that are refused after their pick
@@ -63,7 +64,7 @@ or_after_it = inr refl
 
 a_job_is_five_calls :
     calls_of (started device) (job ingest)
-    ≡ call.pick ingest ∷ call.build 0 ∷ call.take (install 0) ∷ call.write_turn ∷ call.end_turn ∷ []
+    ≡ call.pick ingest ∷ call.build 0 ∷ call.take_install 0 ∷ call.write_turn ∷ call.end_turn ∷ []
 a_job_is_five_calls = refl
 
 where_nothing_comes_next_there_is_none : calls_of (started device) auto ≡ []
@@ -110,6 +111,25 @@ the_manifest_has_it_not = refl
 
 a_new_device_is_in_order : IsInOrder (formatted device)
 a_new_device_is_in_order = record { layers = omega arith; active = tt; taken = tt }
+
+-- and within the limits, so that each script on it is sound
+it_may_be_loaded : IsLoadable (formatted device)
+it_may_be_loaded = record {
+  limits = record {
+    history = record { numbers = omega arith; stores = omega arith };
+    log = record { room = omega arith; layers = omega arith; segments = omega arith };
+    manifest = record { used = omega arith; sequence = omega arith };
+    slots = omega arith;
+    since_base = omega arith;
+    until_now = omega arith;
+    transactions = record { live = omega arith; begins = omega arith };
+    jobs = record { live = omega arith; ids = tt };
+    cursors = omega arith;
+    turn = tt;
+  };
+  order = a_new_device_is_in_order;
+  state = record { rising = tt; named = tt };
+}
 
 -- a manifest with a number that no event took is of no life
 another_number_is_not_recorded : ¬ IsRecorded (formatted device) (record (life (formatted device)) {

@@ -5,7 +5,6 @@ use Rattle.hse_rows.specs.Transaction.{read_of}
 use Rattle.hse_rows.specs.Timeline.{for_some, transaction_of}
 use Rattle.hse_rows.specs.Isolation.{IsIsolated, AreIsolated}
 use Rattle.hse_rows.specs.Job.{JobWish}
-use Rattle.hse_rows.specs.Turn.{TurnWish, install}
 use Rattle.hse_rows.specs.Replies as replies
 use Rattle.hse_rows.specs.Replies.{Refusal, Answer}
 use Rattle.hse_rows.specs.Calls.{inside, outside, Call}
@@ -54,23 +53,23 @@ module _ (s : Script) (good : IsIsolated s.core.timeline) where
   looked_up_anyhow None leads_to each = good
   looked_up_anyhow (Some x) leads_to each = each x
 
-  turn_timeline : (m : Core) (wish : TurnWish) → (turned m wish).timeline ≡ (leads.done m (call.take wish)).timeline
-  turn_timeline m wish = done_keeps (ran m wish) call.end_turn (λ e. e)
+  turn_timeline : (m : Core) (first : Call) → (turned m first).timeline ≡ (leads.done m first).timeline
+  turn_timeline m first = done_keeps (ran m first) call.end_turn (λ e. e)
 
-  failed_timeline : (m : Core) (wish : TurnWish) → (turn_failed m wish).timeline ≡ (leads.done m (call.take wish)).timeline
-  failed_timeline m wish = (refused_keeps (leads.failing (leads.done m (call.take wish)) call.write_turn) call.end_turn).timeline
+  failed_timeline : (m : Core) (first : Call) → (turn_failed m first).timeline ≡ (leads.done m first).timeline
+  failed_timeline m first = (refused_keeps (leads.failing (leads.done m first) call.write_turn) call.end_turn).timeline
 
-  built_timeline : (wish : JobWish) → (leads.done (with_built s.core wish) (call.take (install s.core.picked))).timeline ≡ s.core.timeline
+  built_timeline : (wish : JobWish) → (leads.done (with_built s.core wish) (call.take_install s.core.picked)).timeline ≡ s.core.timeline
   built_timeline wish =
-      done_keeps (with_built s.core wish) (call.take (install s.core.picked)) (λ e. e)
+      done_keeps (with_built s.core wish) (call.take_install s.core.picked) (λ e. e)
       ∙ done_keeps (leads.done s.core (call.pick wish)) (call.build s.core.picked) (λ e. e)
       ∙ done_keeps s.core (call.pick wish) (λ e. e)
 
   job_isolated : (wish : JobWish) → Keeps (job_done s wish)
-  job_isolated wish = at (job_done s wish).core (turn_timeline (with_built s.core wish) (install s.core.picked) ∙ built_timeline wish)
+  job_isolated wish = at (job_done s wish).core (turn_timeline (with_built s.core wish) (call.take_install s.core.picked) ∙ built_timeline wish)
 
   job_failed_isolated : (wish : JobWish) → Keeps (job_failed s wish)
-  job_failed_isolated wish = at (job_failed s wish).core (failed_timeline (with_built s.core wish) (install s.core.picked) ∙ built_timeline wish)
+  job_failed_isolated wish = at (job_failed s wish).core (failed_timeline (with_built s.core wish) (call.take_install s.core.picked) ∙ built_timeline wish)
 
   opening_isolated : (name : List ℕ) (who : Who) (store : List ℕ) (direction : _) (filter : List ℕ) → Keeps (done s (open_cursor name who store direction filter))
   opening_isolated name nobody store direction filter = looked_up_anyhow (store_named (now s.core) store) _ (λ found. good)
@@ -104,10 +103,10 @@ module _ (s : Script) (good : IsIsolated s.core.timeline) where
   line_isolated (take wish) none = called_isolated (call.take wish) none
   line_isolated (take_install name) none =
       looked_up_anyhow (job_named s name) _ (λ id.
-      at (leads.done s.core (call.take (install id))) (done_keeps s.core (call.take (install id)) (λ e. e)))
+      at (leads.done s.core (call.take_install id)) (done_keeps s.core (call.take_install id) (λ e. e)))
   line_isolated write_turn none = good
   line_isolated end_turn none = at (leads.done s.core call.end_turn) (done_keeps s.core call.end_turn (λ e. e))
-  line_isolated (turn wish) none = subst IsIsolated (sym (turn_timeline s.core wish)) (called_isolated (call.take wish) none)
+  line_isolated (turn wish) none = subst IsIsolated (sym (turn_timeline s.core (call.take wish))) (called_isolated (call.take wish) none)
   line_isolated (job wish) none = job_isolated wish
   line_isolated auto none = looked_up_anyhow (next_wish s.core) (job_done s) job_isolated
   line_isolated reopen none = good
@@ -128,7 +127,7 @@ module _ (s : Script) (good : IsIsolated s.core.timeline) where
   refused_isolated line = good
 
   failing_isolated : (line : Line) → refusal s line ≡ None → Keeps (failing s line)
-  failing_isolated (turn wish) none = subst IsIsolated (sym (failed_timeline s.core wish)) (called_isolated (call.take wish) none)
+  failing_isolated (turn wish) none = subst IsIsolated (sym (failed_timeline s.core (call.take wish))) (called_isolated (call.take wish) none)
   failing_isolated (job wish) none = job_failed_isolated wish
   failing_isolated auto none = looked_up_anyhow (next_wish s.core) (job_failed s) job_failed_isolated
   failing_isolated write_turn none = good

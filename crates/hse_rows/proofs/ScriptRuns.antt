@@ -2,7 +2,7 @@
 use Rattle.std.proofs.Common.{◌≡◌, ℕ, ◌+◌, true, false, List, [], ◌∷◌, Some, None, refl, sym, ◌∙◌, ap, subst}
 use Rattle.hse_rows.specs.State.{store_named}
 use Rattle.hse_rows.specs.Job.{JobWish, is_built}
-use Rattle.hse_rows.specs.Turn.{TurnWish, sync, freeze, install, create, drop, TakenTurn, Turn, taken, written, Calls}
+use Rattle.hse_rows.specs.Turn.{TurnWish, sync, freeze, create, drop, TakenTurn, Turn, taken, written, Calls}
 use Rattle.hse_rows.specs.Replies as replies
 use Rattle.hse_rows.specs.Replies.{Refusal, Answer}
 use Rattle.hse_rows.specs.Calls.{inside, outside, Call}
@@ -11,7 +11,7 @@ use Rattle.hse_rows.specs.Core.{Core, JobsAreNumbered, now}
 use Rattle.hse_rows.specs.CoreRefusal.{take_refusal, install_refusal, drop_refusal, unless_not_taken, unless_run_well}
 use Rattle.hse_rows.specs.CoreRefusal as core
 use Rattle.hse_rows.specs.CoreReply as replied
-use Rattle.hse_rows.specs.CoreDone.{taking, with_picked}
+use Rattle.hse_rows.specs.CoreDone.{taking, taking_install, with_picked}
 use Rattle.hse_rows.specs.CoreDone as leads
 use Rattle.hse_rows.specs.CoreStep.{Found}
 use Rattle.hse_rows.specs.ScriptRefusal.{with_built}
@@ -27,26 +27,41 @@ use Rattle.hse_rows.proofs.JobLemmas.{picks, with_built_job, build_passes, built
 takes : (m : Core) (wish : TurnWish) → take_refusal m wish ≡ None → (t : TakenTurn) × ((taking m wish).turn ≡ taken t)
 takes m sync none = (_, refl)
 takes m freeze none = (_, refl)
-takes m (install id) none =
-    found_job (λ (c : Core). (t : TakenTurn) × (c.turn ≡ taken t)) m id is_built (install_refusal m) _ (λ job is passed. (_, refl)) none
 takes m (create name mode prefix) none = (_, refl)
 takes m (drop name) none =
     found (λ (c : Core). (t : TakenTurn) × (c.turn ≡ taken t)) (store_named (now m) name) replies.no_store (drop_refusal m) m _
     (λ store is passed. (_, refl)) none
+
+takes_install : (m : Core) (id : ℕ) → core.refusal m (call.take_install id) ≡ None → (t : TakenTurn) × ((taking_install m id).turn ≡ taken t)
+takes_install m id none =
+    found_job (λ (c : Core). (t : TakenTurn) × (c.turn ≡ taken t)) m id is_built (install_refusal m) _ (λ job is passed. (_, refl)) none
+
+-- a call that takes a turn
+pub record Takes (m : Core) (first : Call) : Type 0 where
+  pub other : IsOther first
+  pub passed : core.refusal m first ≡ None
+  pub turn : TakenTurn
+  pub out : (leads.done m first).turn ≡ taken turn
+
+pub take_takes : (m : Core) (wish : TurnWish) → core.refusal m (call.take wish) ≡ None → Takes m (call.take wish)
+take_takes m wish none = let it = takes m wish none in record { other = tt; passed = none; turn = it.0; out = it.1 }
+
+pub install_takes : (m : Core) (id : ℕ) → core.refusal m (call.take_install id) ≡ None → Takes m (call.take_install id)
+install_takes m id none = let it = takes_install m id none in record { other = tt; passed = none; turn = it.0; out = it.1 }
 
 module _ (f : Found) where
   -- a call alone
   pub one : (m : Core) (c : Call) → IsOther c → core.refusal m c ≡ None → Leads f m (c ∷ []) (leads.done m c)
   one m c other none = (leads.done m c, replied.reply m c, call_passes f m c other none, refl)
 
-  pub turn_led : (m : Core) (wish : TurnWish) → take_refusal m wish ≡ None → Leads f m (turn_calls wish) (turned m wish)
-  turn_led m wish none =
-      let out = (takes m wish none).1 in
-      let taken_one : Core = leads.done m (call.take wish) in
+  pub turn_led : (m : Core) (first : Call) → Takes m first → Leads f m (turn_calls first) (turned m first)
+  turn_led m first it =
+      let out = it.out in
+      let taken_one : Core = leads.done m first in
       let run_one : Core = leads.done taken_one call.write_turn in (
         taken_one,
-        replies.accepted,
-        (none, refl, refl),
+        replied.reply m first,
+        call_passes f m first it.other it.passed,
         (
           run_one,
           replies.written,
@@ -55,15 +70,14 @@ module _ (f : Found) where
         ),
       )
 
-  pub turn_failed_led : (m : Core) (wish : TurnWish) → take_refusal m wish ≡ None → Calls (leads.done m (call.take wish)).turn
-      → Leads f m (turn_calls wish) (turn_failed m wish)
-  turn_failed_led m wish none calls =
-      let out = (takes m wish none).1 in
-      let taken_one : Core = leads.done m (call.take wish) in
+  pub turn_failed_led : (m : Core) (first : Call) → Takes m first → Calls (leads.done m first).turn → Leads f m (turn_calls first) (turn_failed m first)
+  turn_failed_led m first it calls =
+      let out = it.out in
+      let taken_one : Core = leads.done m first in
       let run_one : Core = leads.failing taken_one call.write_turn in (
         taken_one,
-        replies.accepted,
-        (none, refl, refl),
+        replied.reply m first,
+        call_passes f m first it.other it.passed,
         (
           run_one,
           replies.device_fault,
@@ -102,10 +116,10 @@ module _ (f : Found) where
         ap (λ (c : Core). leads.done c (call.build m.picked)) it.1 ∙ built_is m numbered it.0
 
     -- a job that is refused after its build is dropped
-    pub refused_led : (reason : Refusal ℕ) → core.refusal (with_built m wish) (call.take (install m.picked)) ≡ Some reason
-        → Leads f m (call.pick wish ∷ call.build m.picked ∷ call.take (install m.picked) ∷ call.drop_job m.picked ∷ []) (record m { picked = m.picked + 1 })
+    pub refused_led : (reason : Refusal ℕ) → core.refusal (with_built m wish) (call.take_install m.picked) ≡ Some reason
+        → Leads f m (call.pick wish ∷ call.build m.picked ∷ call.take_install m.picked ∷ call.drop_job m.picked ∷ []) (record m { picked = m.picked + 1 })
     refused_led reason is =
-        built_first (call.take (install m.picked) ∷ call.drop_job m.picked ∷ []) (record m { picked = m.picked + 1 }) (
+        built_first (call.take_install m.picked ∷ call.drop_job m.picked ∷ []) (record m { picked = m.picked + 1 }) (
           with_built m wish,
           replies.refused reason,
           (is, refl),

@@ -115,7 +115,6 @@ found_base m (Some x) leads_to each = each x
 taking_base : (m : Core) (w : TurnWish) → (taking m w).timeline.base ≡ m.timeline.base
 taking_base m wish.sync = refl
 taking_base m wish.freeze = refl
-taking_base m (wish.install id) = found_base m (job_of m.jobs id) _ (λ job. refl)
 taking_base m (wish.create name mode prefix) = refl
 taking_base m (wish.drop name) = found_base m (store_named (now m) name) _ (λ store. refl)
 
@@ -128,6 +127,7 @@ done_base m (call.write_by (inside order) name change) =
 done_base m (call.commit order) = found_base m (transaction_of m.timeline order) _ (λ transaction. moved_base m.timeline (commit order))
 done_base m (call.abort order) = moved_base m.timeline (abort order)
 done_base m (call.take w) = taking_base m w
+done_base m (call.take_install id) = found_base m (job_of m.jobs id) _ (λ job. refl)
 done_base m call.reopen = refl
 done_base m (call.get actor name key) = refl
 done_base m call.list_stores = refl

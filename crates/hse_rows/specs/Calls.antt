@@ -30,6 +30,8 @@ pub data Call : Type 0 where
   drop_job : ℕ → Call
   next_job : Call
   take : TurnWish → Call
+  -- the turn of an install, of the job of this id
+  take_install : ℕ → Call
   write_turn : Call
   end_turn : Call
   reopen : Call

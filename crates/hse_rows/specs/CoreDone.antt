@@ -9,9 +9,9 @@ use Rattle.hse_rows.specs.Timeline.{snapshot_of, transaction_of, for_some}
 use Rattle.hse_rows.specs.Log.{LogState, Frozen, logged}
 use Rattle.hse_rows.specs.Layout.{NewSet, is_last, sets_at}
 use Rattle.hse_rows.specs.Job.{RunKind, JobWish, ingest, of_run, Run, Work, ingesting, on_run, Job, JobState, picked, built, installing, job_of, installed, needed_blocks, freed_blocks}
-use Rattle.hse_rows.specs.Turn.{TurnKind, syncing, freezing, creating, dropping, TurnWish, sync, freeze, install, create, drop, Plan, settles, enters, removes, installs, TakenTurn, Turn, home, taken, ran, written, Calls}
+use Rattle.hse_rows.specs.Turn.{TurnKind, syncing, freezing, creating, dropping, TurnWish, sync, freeze, create, drop, Plan, settles, enters, removes, installs, TakenTurn, Turn, home, taken, ran, written, Calls}
 use Rattle.hse_rows.specs.Turn as turns
-use Rattle.hse_rows.specs.Calls.{outside, inside, Call, begin, write_by, get, commit, abort, list_stores, tree, info, take_place, give_place, pick, build, drop_job, next_job, take, write_turn, end_turn, reopen}
+use Rattle.hse_rows.specs.Calls.{outside, inside, Call, begin, write_by, get, commit, abort, list_stores, tree, info, take_place, give_place, pick, build, drop_job, next_job, take, take_install, write_turn, end_turn, reopen}
 use Rattle.hse_rows.specs.Core.{Core, blocks_in, now, number_of, oldest, write_to, with_move, layout_but}
 use Rattle.hse_rows.specs.ManifestEntry.{creation_entry, drop_entry, install_entry, entered}
 use Rattle.hse_rows.specs.CoreReply.{sets_for}
@@ -98,10 +98,6 @@ taking m sync = with_turn m syncing settles (has_pending m)
 taking m freeze =
     with_turn (record m { log = frozen_log m.log (number_of m) }) freezing settles
     (not (length m.log.active == 0) || has_pending m)
-taking m (install id) =
-    for_some (job_of m.jobs id) m (λ job.
-    with_turn_up_to (with_installing m job) m.safe turns.installing
-    (installs id job.work job.sets (entered m (install_entry m job.work job.sets))) true)
 taking m (create name mode prefix) =
     with_turn (with_move m (moves.create name mode prefix)) creating
     (enters (entered m (creation_entry m name mode prefix))) true
@@ -109,6 +105,12 @@ taking m (drop name) =
     for_some (store_named (now m) name) m (λ store.
     with_turn (with_move m (moves.remove store.id)) dropping
     (removes store.id (entered m (drop_entry m store))) true)
+
+abbrev pub taking_install : Core → ℕ → Core
+taking_install m id =
+    for_some (job_of m.jobs id) m (λ job.
+    with_turn_up_to (with_installing m job) m.safe turns.installing
+    (installs id job.work job.sets (entered m (install_entry m job.work job.sets))) true)
 
 -- the layers but the one that was frozen first
 abbrev pub without_oldest : List Frozen → List Frozen
@@ -194,6 +196,7 @@ done m (build id) = for_some (job_of m.jobs id) m (building m)
 done m (drop_job id) = record m { jobs = without_job m.jobs id }
 done m next_job = m
 done m (take wish) = taking m wish
+done m (take_install id) = taking_install m id
 done m write_turn = record m { turn = written m.turn false }
 done m end_turn = ending m m.turn
 done m reopen = m

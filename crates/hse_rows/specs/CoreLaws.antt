@@ -7,9 +7,9 @@ use Rattle.hse_rows.specs.Timeline.{Timeline, Goes}
 use Rattle.hse_rows.specs.Timeline as timeline
 use Rattle.hse_rows.specs.Isolation.{IsIsolated, AreIsolated}
 use Rattle.hse_rows.specs.Sources.{IsSourced}
-use Rattle.hse_rows.specs.Turn.{TurnWish, sync, freeze, install, create, drop}
+use Rattle.hse_rows.specs.Turn.{TurnWish, sync, freeze, create, drop}
 use Rattle.hse_rows.specs.Replies.{Refusal, Answer, ok, refused, no_memory, device_fault, canceled_held, canceled_since}
-use Rattle.hse_rows.specs.Calls.{Call, begin, write_by, get, commit, abort, list_stores, tree, info, take_place, give_place, pick, build, drop_job, next_job, take, write_turn, end_turn, reopen}
+use Rattle.hse_rows.specs.Calls.{Call, begin, write_by, get, commit, abort, list_stores, tree, info, take_place, give_place, pick, build, drop_job, next_job, take, take_install, write_turn, end_turn, reopen}
 use Rattle.hse_rows.specs.Core.{Core, Stored, life}
 use Rattle.hse_rows.specs.Recorded.{IsRecorded, IsInOrder}
 use Rattle.hse_rows.specs.Limits.{IsWithinLimits}
@@ -56,7 +56,6 @@ CommitsAreNotCanceled =
 abbrev pub TakesEvent : TurnWish → Type 0
 TakesEvent sync = ⊥
 TakesEvent freeze = ⊥
-TakesEvent (install id) = ⊥
 TakesEvent (create name mode prefix) = Unit {0}
 TakesEvent (drop name) = Unit {0}
 
@@ -66,6 +65,7 @@ ChangesTimeline (write_by actor name change) = Unit {0}
 ChangesTimeline (commit order) = Unit {0}
 ChangesTimeline (abort order) = Unit {0}
 ChangesTimeline (take wish) = TakesEvent wish
+ChangesTimeline (take_install id) = ⊥
 ChangesTimeline reopen = Unit {0}
 ChangesTimeline (get actor name key) = ⊥
 ChangesTimeline list_stores = ⊥
@@ -90,6 +90,7 @@ ChangesCursors (write_by actor name change) = ⊥
 ChangesCursors (commit order) = ⊥
 ChangesCursors (abort order) = ⊥
 ChangesCursors (take wish) = ⊥
+ChangesCursors (take_install id) = ⊥
 ChangesCursors (get actor name key) = ⊥
 ChangesCursors list_stores = ⊥
 ChangesCursors (tree name) = ⊥
@@ -101,7 +102,7 @@ ChangesCursors next_job = ⊥
 ChangesCursors write_turn = ⊥
 ChangesCursors end_turn = ⊥
 
--- The phases of a sync, a freeze and an install, picks and builds change no state, no transaction and no cursor.
+-- The phases of a sync, a freeze and an install, picks and builds change no state, no transaction and no count of cursors.
 abbrev pub OthersKeepTimelines : Type 0
 OthersKeepTimelines =
     (found : Found) (old new : Core) (call : Call) (answer : Answer ℕ)
@@ -176,6 +177,13 @@ abbrev pub StepsKeepLimits : Type 0
 StepsKeepLimits =
     (found : Found) (old new : Core) (call : Call) (answer : Answer ℕ)
     → IsWithinLimits old → LoadsWithinLimits found → Step found old call answer new → IsWithinLimits new
+
+-- So every run keeps within them.
+abbrev pub RunsKeepLimits : Type 0
+RunsKeepLimits =
+    (stored : Stored) (entries : List Entry) (new : Core)
+    → IsWithinLimits (life stored) → AllByRecursion (λ entry. LoadsWithinLimits entry.found) entries
+    → Run (life stored) entries new → IsWithinLimits new
 
 -- ---- what log and manifest keep
 

@@ -18,9 +18,9 @@ use Rattle.hse_rows.specs.Layout.{sets_at}
 use Rattle.hse_rows.specs.Sizes.{Sizes}
 use Rattle.hse_rows.specs.ManifestRoom.{greatest_sequence, half_room}
 use Rattle.hse_rows.specs.Job.{RunKind, JobWish, ingest, of_run, Job, JobState, is_picked, is_built, is_installing, is_spill, job_of, live_ingest, claimer, first_on, needed_blocks}
-use Rattle.hse_rows.specs.Turn.{TurnWish, sync, freeze, install, create, drop, Turn, home, taken, ran, is_home, is_taken, is_run}
+use Rattle.hse_rows.specs.Turn.{TurnWish, sync, freeze, create, drop, Turn, home, taken, ran, is_home, is_taken, is_run}
 use Rattle.hse_rows.specs.Replies.{by_commit, by_abort, Refusal, no_name, ended_by, store_exists, no_store, store_mode, key_length, value_length, prefix_length, broken, too_many, spent, busy, turn_is, manifest_full, txn_size, log_full, full, log_busy, store_held, node_busy, canceled_held, canceled_since, depth, no_run, job_state}
-use Rattle.hse_rows.specs.Calls.{outside, inside, Call, begin, write_by, get, commit, abort, list_stores, tree, info, take_place, give_place, pick, build, drop_job, next_job, take, write_turn, end_turn, reopen}
+use Rattle.hse_rows.specs.Calls.{outside, inside, Call, begin, write_by, get, commit, abort, list_stores, tree, info, take_place, give_place, pick, build, drop_job, next_job, take, take_install, write_turn, end_turn, reopen}
 use Rattle.hse_rows.specs.Core.{Core, whole_room, left_room, free_slots, live, now, number_of, longest_key, longest_value, longest_prefix, most_transactions, most_cursors, most_jobs, greatest_number, write_to}
 use Rattle.hse_rows.specs.ManifestEntry.{ManifestEntry, whole_need, has_no_room, creation_entry, drop_entry, install_entry}
 
@@ -196,7 +196,6 @@ abbrev pub take_refusal : Core → TurnWish → Option (Refusal ℕ)
 take_refusal m sync = refuse m.is_broken broken (unless_busy m.turn None)
 take_refusal m freeze =
     refuse m.is_broken broken (unless_busy m.turn (refuse (is_log_busy m.log) log_busy None))
-take_refusal m (install id) = with_job m id is_built (install_refusal m)
 take_refusal m (create name mode prefix) =
     refuse (is_some (store_named (now m) name)) store_exists
     (refuse (nat_lt longest_prefix prefix) (prefix_length prefix)
@@ -248,6 +247,7 @@ refusal m (build id) = with_job m id is_picked (λ job. refuse m.is_broken broke
 refusal m (drop_job id) = with_job m id (λ state. not (is_installing state)) (λ job. None)
 refusal m next_job = None
 refusal m (take wish) = take_refusal m wish
+refusal m (take_install id) = with_job m id is_built (install_refusal m)
 refusal m write_turn = unless_not_taken m.turn
 refusal m end_turn = unless_run_well m.turn
 refusal m reopen = unless_busy m.turn None

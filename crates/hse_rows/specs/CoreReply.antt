@@ -14,7 +14,7 @@ use Rattle.hse_rows.specs.Job.{JobWish, Work, job_of, built_sets, blocks_of, nee
 use Rattle.hse_rows.specs.Turn.{Plan, settles, enters, removes, installs, TakenTurn, Turn, home, taken, ran}
 use Rattle.hse_rows.specs.Replies as replies
 use Rattle.hse_rows.specs.Replies.{Part, Refusal, busy, not_formed, other_version, Listed, ListedSet, Figures, Answer, silence, accepted, ok, value, none, listed, sets, figures, pick_next, refused, no_memory, device_fault}
-use Rattle.hse_rows.specs.Calls.{outside, inside, Call, begin, write_by, get, commit, abort, list_stores, tree, info, take_place, give_place, pick, build, drop_job, next_job, take, write_turn, end_turn, reopen}
+use Rattle.hse_rows.specs.Calls.{outside, inside, Call, begin, write_by, get, commit, abort, list_stores, tree, info, take_place, give_place, pick, build, drop_job, next_job, take, take_install, write_turn, end_turn, reopen}
 use Rattle.hse_rows.specs.Core.{Core, now, number_of, free_slots, oldest, oldest_commits}
 use Rattle.hse_rows.specs.Schedule.{next_wish}
 
@@ -97,6 +97,7 @@ reply m (build id) =
 reply m (drop_job id) = accepted
 reply m next_job = next_reply (next_wish m)
 reply m (take wish) = accepted
+reply m (take_install id) = accepted
 reply m write_turn = replies.written
 reply m end_turn = end_reply m.turn
 reply m reopen = accepted

@@ -2,7 +2,6 @@
 use Rattle.std.specs.Prelude.{◌≡◌, ℕ, List, [], ◌∷◌}
 use Rattle.hse_rows.specs.Timeline.{for_some}
 use Rattle.hse_rows.specs.Job.{JobWish}
-use Rattle.hse_rows.specs.Turn.{TurnWish, install}
 use Rattle.hse_rows.specs.Replies.{Answer}
 use Rattle.hse_rows.specs.Calls.{outside, inside, Call}
 use Rattle.hse_rows.specs.Calls as call
@@ -17,13 +16,13 @@ abbrev pub Leads : Found → Core → List Call → Core → Type 0
 Leads found old [] new = new ≡ old
 Leads found old (first ∷ calls) new = (mid : Core) × (answer : Answer ℕ) × Step found old first answer mid × Leads found mid calls new
 
--- the phases of a turn
-abbrev pub turn_calls : TurnWish → List Call
-turn_calls wish = call.take wish ∷ call.write_turn ∷ call.end_turn ∷ []
+-- the phases of a turn that this call takes
+abbrev pub turn_calls : Call → List Call
+turn_calls take_call = take_call ∷ call.write_turn ∷ call.end_turn ∷ []
 
 -- and those of a job, which gets this id
 abbrev pub job_calls : ℕ → JobWish → List Call
-job_calls id wish = call.pick wish ∷ call.build id ∷ turn_calls (install id)
+job_calls id wish = call.pick wish ∷ call.build id ∷ turn_calls (call.take_install id)
 
 abbrev pub of_order : Script → List ℕ → (ℕ → Call) → List Call
 of_order s name call_of = for_some (order_of s name) [] (λ order. call_of order ∷ [])
@@ -54,10 +53,10 @@ calls_of s (build name) = of_job s name call.build
 calls_of s (drop_job name) = of_job s name call.drop_job
 calls_of s next_job = call.next_job ∷ []
 calls_of s (take wish) = call.take wish ∷ []
-calls_of s (take_install name) = of_job s name (λ id. call.take (install id))
+calls_of s (take_install name) = of_job s name call.take_install
 calls_of s write_turn = call.write_turn ∷ []
 calls_of s end_turn = call.end_turn ∷ []
-calls_of s (turn wish) = turn_calls wish
+calls_of s (turn wish) = turn_calls (call.take wish)
 calls_of s (job wish) = job_calls s.core.picked wish
 calls_of s auto = for_some (next_wish s.core) [] (job_calls s.core.picked)
 calls_of s reopen = call.reopen ∷ []

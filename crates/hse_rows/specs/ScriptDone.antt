@@ -5,7 +5,6 @@ use Rattle.hse_rows.specs.Transaction.{read_of}
 use Rattle.hse_rows.specs.Timeline.{transaction_of, for_some}
 use Rattle.hse_rows.specs.Cursor.{Direction, front, CursorState, Pair, read_by, after_read, sought, sought_range, found_by, updated}
 use Rattle.hse_rows.specs.Job.{JobWish}
-use Rattle.hse_rows.specs.Turn.{TurnWish, install}
 use Rattle.hse_rows.specs.Replies.{Answer, silence, accepted, at_key, pair, at_end, none}
 use Rattle.hse_rows.specs.Calls.{outside, inside, Call}
 use Rattle.hse_rows.specs.Calls as call
@@ -20,19 +19,19 @@ use Rattle.hse_rows.specs.ScriptRefusal.{asked, with_built}
 
 -- ---- the phases of a turn in a row
 
--- the core when the turn has made its device calls
-abbrev pub ran : Core → TurnWish → Core
-ran m wish = core.done (core.done m (call.take wish)) call.write_turn
+-- the core when the turn of this call has made its device calls
+abbrev pub ran : Core → Call → Core
+ran m take_call = core.done (core.done m take_call) call.write_turn
 
-abbrev pub turned : Core → TurnWish → Core
-turned m wish = core.done (ran m wish) call.end_turn
+abbrev pub turned : Core → Call → Core
+turned m take_call = core.done (ran m take_call) call.end_turn
 
 -- where a device call failed, the end gives the turn back all the same
-abbrev pub turn_failed : Core → TurnWish → Core
-turn_failed m wish = core.refused_to (core.failing (core.done m (call.take wish)) call.write_turn) call.end_turn
+abbrev pub turn_failed : Core → Call → Core
+turn_failed m take_call = core.refused_to (core.failing (core.done m take_call) call.write_turn) call.end_turn
 
-abbrev pub turn_reply : Core → TurnWish → Answer ℕ
-turn_reply m wish = replied.reply (ran m wish) call.end_turn
+abbrev pub turn_reply : Core → Call → Answer ℕ
+turn_reply m take_call = replied.reply (ran m take_call) call.end_turn
 
 -- ---- replies
 
@@ -57,7 +56,7 @@ abbrev pub of_cursor : Script → List ℕ → (CursorState → Answer (List ℕ
 of_cursor s name later = for_some (cursor_named s name) accepted later
 
 abbrev pub job_reply : Script → JobWish → Answer (List ℕ)
-job_reply s wish = answer_named s (turn_reply (with_built s.core wish) (install s.core.picked))
+job_reply s wish = answer_named s (turn_reply (with_built s.core wish) (call.take_install s.core.picked))
 
 abbrev pub reply : Script → Line → Answer (List ℕ)
 reply s (begin name) = answered s call.begin
@@ -85,7 +84,7 @@ reply s (take wish) = accepted
 reply s (take_install name) = accepted
 reply s write_turn = answered s call.write_turn
 reply s end_turn = answered s call.end_turn
-reply s (turn wish) = answer_named s (turn_reply s.core wish)
+reply s (turn wish) = answer_named s (turn_reply s.core (call.take wish))
 reply s (job wish) = job_reply s wish
 reply s auto = for_some (next_wish s.core) none (job_reply s)
 reply s reopen = accepted
@@ -157,10 +156,10 @@ with_picked_name s name = record s { picked_names = s.picked_names ++ name ∷ [
 
 -- the phases of a job in a row
 abbrev pub job_done : Script → JobWish → Script
-job_done s wish = with_picked_name (with_core s (turned (with_built s.core wish) (install s.core.picked))) []
+job_done s wish = with_picked_name (with_core s (turned (with_built s.core wish) (call.take_install s.core.picked))) []
 
 abbrev pub job_failed : Script → JobWish → Script
-job_failed s wish = with_picked_name (with_core s (turn_failed (with_built s.core wish) (install s.core.picked))) []
+job_failed s wish = with_picked_name (with_core s (turn_failed (with_built s.core wish) (call.take_install s.core.picked))) []
 
 -- a job that the line picked is gone again: its id and its place among the names stay used
 abbrev pub once_picked : Script → Script
@@ -192,10 +191,10 @@ done s (build name) = at_job s name call.build
 done s (drop_job name) = at_job s name call.drop_job
 done s next_job = s
 done s (take wish) = called s (call.take wish)
-done s (take_install name) = at_job s name (λ id. call.take (install id))
+done s (take_install name) = at_job s name call.take_install
 done s write_turn = called s call.write_turn
 done s end_turn = called s call.end_turn
-done s (turn wish) = with_core s (turned s.core wish)
+done s (turn wish) = with_core s (turned s.core (call.take wish))
 done s (job wish) = job_done s wish
 done s auto = for_some (next_wish s.core) s (job_done s)
 done s reopen = s
@@ -211,7 +210,7 @@ refused_to s line = s
 
 -- a device call failed
 abbrev pub failing : Script → Line → Script
-failing s (turn wish) = with_core s (turn_failed s.core wish)
+failing s (turn wish) = with_core s (turn_failed s.core (call.take wish))
 failing s (job wish) = job_failed s wish
 failing s auto = for_some (next_wish s.core) s (job_failed s)
 failing s write_turn = with_core s (core.failing s.core call.write_turn)

@@ -15,7 +15,7 @@ use Rattle.hse_rows.specs.CoreStep.{Found, loads, breaks_off, has_version}
 use Rattle.hse_rows.specs.CoreLaws.{TakesEvent, Stands}
 use Rattle.hse_rows.specs.Limits.{IsWithinLimits}
 use Rattle.hse_rows.specs.Recorded.{IsRecorded, IsInOrder}
-use Rattle.hse_rows.specs.ScriptLines.{Line, begin, write_by, commit, abort, open_cursor, seek, seek_range, read, update, close_cursor, take, end_turn, turn, reopen}
+use Rattle.hse_rows.specs.ScriptLines.{Line, begin, write_by, commit, abort, open_cursor, seek, seek_range, read, update, close_cursor, take, end_turn, turn, job, auto, reopen}
 use Rattle.hse_rows.specs.Script.{Script, begins_with}
 use Rattle.hse_rows.specs.ScriptRefusal.{refusal}
 use Rattle.hse_rows.specs.ScriptDone.{turned, turn_failed, turn_reply, once_picked}
@@ -42,9 +42,9 @@ Run old (entry ∷ entries) new =
 abbrev pub SyncsAreOneStep : Type 0
 SyncsAreOneStep =
     (m : Core)
-    → (turned m sync ≡ record m { safe = number_of m; turn = home })
-    × (turn_reply m sync ≡ ok (number_of m))
-    × (turn_failed m sync ≡ record m { is_broken = true; turn = home })
+    → (turned m (call.take sync) ≡ record m { safe = number_of m; turn = home })
+    × (turn_reply m (call.take sync) ≡ ok (number_of m))
+    × (turn_failed m (call.take sync) ≡ record m { is_broken = true; turn = home })
 
 -- a core with one move more, when all is safe
 abbrev pub SafeAfter : Core → Core
@@ -54,26 +54,26 @@ SafeAfter m = record m { safe = number_of m; turn = home }
 abbrev pub CreationsAreOneStep : Type 0
 CreationsAreOneStep =
     (m : Core) (name : List ℕ) (mode : Mode) (prefix_length : ℕ)
-    → (turned m (create name mode prefix_length)
+    → (turned m (call.take (create name mode prefix_length))
     ≡ record (SafeAfter (with_move m (move.create name mode prefix_length))) {
       manifest = entered m (creation_entry m name mode prefix_length);
     })
-    × (turn_reply m (create name mode prefix_length) ≡ ok (number_of m + 1))
-    × (turn_failed m (create name mode prefix_length)
+    × (turn_reply m (call.take (create name mode prefix_length)) ≡ ok (number_of m + 1))
+    × (turn_failed m (call.take (create name mode prefix_length))
     ≡ record (with_move m (move.create name mode prefix_length)) { is_broken = true; turn = home })
 
 -- A drop likewise, and the sets of its store leave.
 abbrev pub DropsAreOneStep : Type 0
 DropsAreOneStep =
     (m : Core) (name : List ℕ) (store : Store) → store_named (now m) name ≡ Some store
-    → (turned m (drop name)
+    → (turned m (call.take (drop name))
     ≡ record (SafeAfter (with_move m (move.remove store.id))) {
       manifest = entered m (drop_entry m store);
       layout = layout_but m.layout store.id;
       used_slots = m.used_slots - (blocks_in m.layout - blocks_in (layout_but m.layout store.id));
     })
-    × (turn_reply m (drop name) ≡ ok (number_of m + 1))
-    × (turn_failed m (drop name) ≡ record (with_move m (move.remove store.id)) { is_broken = true; turn = home })
+    × (turn_reply m (call.take (drop name)) ≡ ok (number_of m + 1))
+    × (turn_failed m (call.take (drop name)) ≡ record (with_move m (move.remove store.id)) { is_broken = true; turn = home })
 
 -- ---- lines as calls of the core
 
@@ -100,18 +100,27 @@ LinesLeadOneWay =
     (found : Found) (old new : Script) (line : Line) (answer : Answer (List ℕ))
     → answer ≢ no_memory → Step found old line answer new → new ≡ led_to found old line answer
 
--- Want of memory changes nothing, but that a job may have been picked and is gone again.
+-- the lines that pick a job and install it
+abbrev pub PicksJob : Line → Type 0
+PicksJob (job wish) = Unit {0}
+PicksJob auto = Unit {0}
+PicksJob line = ⊥
+
+-- nothing changes, but that a job may have been picked and is gone again
+abbrev pub Leaves : Line → Script → Script → Type 0
+Leaves line old new = (new ≡ old) ⊎ (PicksJob line × (new ≡ once_picked old))
+
+-- Want of memory changes nothing but that.
 abbrev pub WantOfMemoryChangesNothing : Type 0
 WantOfMemoryChangesNothing =
     (found : Found) (old new : Script) (line : Line)
-    → Step found old line no_memory new → (new ≡ old) ⊎ (new ≡ once_picked old)
+    → Step found old line no_memory new → Leaves line old new
 
--- A refusal changes nothing, but that an end gives a turn back whose device calls failed, and that a job was picked and is
--- gone again.
+-- A refusal changes nothing but that, and that an end gives a turn back whose device calls failed.
 abbrev pub RefusalsChangeNothing : Type 0
 RefusalsChangeNothing =
     (found : Found) (old new : Script) (line : Line) (reason : Refusal (List ℕ))
-    → line ≢ end_turn → Step found old line (refused reason) new → (new ≡ old) ⊎ (new ≡ once_picked old)
+    → line ≢ end_turn → Step found old line (refused reason) new → Leaves line old new
 
 -- But for want of memory and a device fault, a line has one answer.
 abbrev pub LinesHaveOneAnswer : Type 0

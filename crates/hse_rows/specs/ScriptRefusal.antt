@@ -5,7 +5,6 @@ use Rattle.hse_rows.specs.Transaction.{TransactionState, active, committed, abor
 use Rattle.hse_rows.specs.Timeline.{transaction_of, for_some}
 use Rattle.hse_rows.specs.Cursor.{Direction, forward, backward, CursorState}
 use Rattle.hse_rows.specs.Job.{JobWish}
-use Rattle.hse_rows.specs.Turn.{install}
 use Rattle.hse_rows.specs.Replies.{Refusal, bad_line, name_used, no_name, ended_by, by_commit, by_abort, no_store, key_length, forward_only}
 use Rattle.hse_rows.specs.Calls.{outside, inside, Call}
 use Rattle.hse_rows.specs.Calls as call
@@ -79,7 +78,7 @@ or_later (Some reason) later = Some reason
 abbrev pub job_refusal : Script → JobWish → Option (Refusal (List ℕ))
 job_refusal s wish =
     or_later (asked s (call.pick wish))
-    (told s (core.refusal (with_built s.core wish) (call.take (install s.core.picked))))
+    (told s (core.refusal (with_built s.core wish) (call.take_install s.core.picked)))
 
 -- ---- lines
 
@@ -114,7 +113,7 @@ refusal s (build name) = with_job s name (λ id. asked s (call.build id))
 refusal s (drop_job name) = with_job s name (λ id. asked s (call.drop_job id))
 refusal s next_job = None
 refusal s (take wish) = asked s (call.take wish)
-refusal s (take_install name) = with_job s name (λ id. asked s (call.take (install id)))
+refusal s (take_install name) = with_job s name (λ id. asked s (call.take_install id))
 refusal s write_turn = asked s call.write_turn
 refusal s end_turn = asked s call.end_turn
 refusal s (turn wish) = asked s (call.take wish)

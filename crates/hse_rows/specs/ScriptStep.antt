@@ -2,7 +2,7 @@
 use Rattle.std.specs.Prelude.{◌≡◌, ◌⊎◌, ℕ, List, Option, Some, None}
 use Rattle.hse_rows.specs.Timeline.{for_some}
 use Rattle.hse_rows.specs.Job.{JobWish}
-use Rattle.hse_rows.specs.Turn.{Calls, install}
+use Rattle.hse_rows.specs.Turn.{Calls}
 use Rattle.hse_rows.specs.Replies.{Refusal, Answer, silence, ok, refused, busy, not_formed, other_version, no_memory, device_fault}
 use Rattle.hse_rows.specs.Calls as call
 use Rattle.hse_rows.specs.Core.{Core, life}
@@ -16,7 +16,7 @@ use Rattle.hse_rows.specs.ScriptDone.{reply, done, refused_to, job_refused, fail
 
 -- a job whose install calls the device
 abbrev pub CallsFor : Core → JobWish → Type 0
-CallsFor m wish = Calls (core.done (with_built m wish) (call.take (install m.picked))).turn
+CallsFor m wish = Calls (core.done (with_built m wish) (call.take_install m.picked)).turn
 
 abbrev pub CallsForSome : Core → Option JobWish → Type 0
 CallsForSome m None = ⊥

@@ -12,12 +12,10 @@ pub data TurnKind : Type 0 where
   creating : TurnKind
   dropping : TurnKind
 
--- what a turn is asked for
+-- what a turn is asked for, but an install
 pub data TurnWish : Type 0 where
   sync : TurnWish
   freeze : TurnWish
-  -- the job of this id
-  install : ℕ → TurnWish
   -- name, mode and prefix length
   create : List ℕ → Mode → ℕ → TurnWish
   drop : List ℕ → TurnWish

@@ -5,7 +5,7 @@ ghost use Rattle.hse_rows.specs.CoreLaws.{OthersKeepTimelines, OthersKeepCursors
 ghost use Rattle.hse_rows.specs.CoreLaws.{LivesStand, StepsKeepStanding};
 ghost use Rattle.hse_rows.specs.CoreLaws.{AnswersLeadOneWay, RefusalsChangeNothing};
 ghost use Rattle.hse_rows.specs.CoreLaws.{CallsAreAnswered, CallsHaveOneAnswer};
-ghost use Rattle.hse_rows.specs.CoreLaws.{StepsKeepLimits, LivesBeginRecorded};
+ghost use Rattle.hse_rows.specs.CoreLaws.{StepsKeepLimits, RunsKeepLimits, LivesBeginRecorded};
 ghost use Rattle.hse_rows.specs.CoreLaws.{StepsKeepRecords, RunsAreRecorded};
 
 /// Snapshot isolation. In every run no two transactions that each began before the other's commit
@@ -17,7 +17,7 @@ pub fn runs_are_isolated()
 {}
 
 /// The phases of a sync, a freeze and an install, picks and builds change no state, no transaction
-/// and no cursor.
+/// and not the count of cursors.
 pub fn others_keep_timelines()
     ensures timelines { OthersKeepTimelines }
     ensures cursors { OthersKeepCursors }
@@ -44,13 +44,14 @@ pub fn calls_have_one_answer()
     ensures one { CallsHaveOneAnswer }
 {}
 
-/// Each call keeps within the limits, where a reopening loads what is within them: the log's commits
+/// Each call, and so each run, keeps within the limits, where what is loaded is: the log's commits
 /// have room in their segment and at most three layers are frozen, the manifest's batches have room in
 /// their half, no more slots are used than there are, numbers, sequences and counts of stores, live
 /// transactions, begins, jobs and cursors are within their limits, the id of each job is less than the
 /// count of picks, and what is safe is between the base and the last number.
 pub fn calls_keep_limits()
-    ensures { StepsKeepLimits }
+    ensures steps { StepsKeepLimits }
+    ensures runs { RunsKeepLimits }
 {}
 
 /// In every run each commit since the life began stands in the log, with those that the device stored
