@@ -4,3 +4,6 @@ pub mod Filling
 pub mod Lengths
 pub mod Tree
 pub mod Iteration
+pub mod StoreRows
+pub mod OneStore
+pub mod Covered

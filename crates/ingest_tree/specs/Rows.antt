@@ -31,7 +31,7 @@ row number change = record { number = number; change = change }
 
 -- a row that stands where a spot is
 abbrev pub row_at : Spot → StoreRow
-row_at spot = store_row spot.store (row 0 (change_of spot.change))
+row_at spot = store_row (record { 0 = spot.id }) (row 0 (change_of spot.change))
 
 -- the row that an item is
 abbrev pub item_of : StoreId × RowRef → StoreRow

@@ -9,9 +9,11 @@ mod part;
 mod search;
 mod steps;
 mod store_row;
+mod store_rows;
 mod tree;
 
 pub use iter::IngestIter;
 pub use steps::Steps;
 pub use store_row::StoreRow;
+pub use store_rows::StoreRows;
 pub use tree::IngestTree;
