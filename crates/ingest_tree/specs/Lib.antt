@@ -1,0 +1,9 @@
+pub mod Rows
+pub mod Parts
+pub mod Filling
+pub mod Lengths
+pub mod Tree
+pub mod Iteration
+pub mod StoreRows
+pub mod OneStore
+pub mod Covered
