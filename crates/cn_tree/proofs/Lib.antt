@@ -1,0 +1,4 @@
+pub mod SortedLemmas
+pub mod NodeLemmas
+pub mod RunLemmas
+pub mod FoundLemmas
