@@ -1,4 +1,3 @@
-pub mod SortedLemmas
 pub mod NodeLemmas
 pub mod RunLemmas
 pub mod FoundLemmas

@@ -6,7 +6,7 @@ pub returns-in-Ok : goal.returns-in-Ok
 returns-in-Ok g c =
     let within = rw c.deref.ensures.value at c.in-Ok.ensures.bound in
     let searched = rw c.deref.ensures.value at c.in-Ok.ensures.position in
-    c.remove.ensures.items
+    c.remove.ensures.by_index.2
     ∙ removed-found c.args.path.now [] c.args.nodes.now.items c.in-Ok.at c.remove.result c.requires within (searched _)
 
 pub returns-in-Err : goal.returns-in-Err
