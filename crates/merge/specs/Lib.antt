@@ -1,0 +1,4 @@
+pub mod Places
+pub mod First
+pub mod Steps
+pub mod Merge
