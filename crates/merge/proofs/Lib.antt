@@ -6,3 +6,4 @@ pub mod SoonLemmas
 pub mod PastLemmas
 pub mod TurnLemmas
 pub mod SeekLemmas
+pub mod DeleteLemmas

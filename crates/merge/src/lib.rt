@@ -4,6 +4,7 @@
 mod covers;
 mod heads;
 mod merged;
+mod prefixes;
 mod seeks;
 mod steps;
 

@@ -6,12 +6,15 @@ ghost use Rattle.hse_rows.specs.Cursor.{forward, front};
 ghost use Rattle.row_laws.specs.Next.{OwnFalls, position_of};
 ghost use Rattle.merge.specs.Places.{direction_of, places_by};
 ghost use Rattle.merge.specs.Steps.{IsRowAt};
+ghost use Rattle.merge.specs.Deletes.{all_deletes};
 ghost use Rattle.merge.specs.Merge.{StandsAt, IsNext, Goes, last_after};
 
+use crate::prefixes::prefixes;
 use crate::seeks::{first_places, seek};
 use crate::steps::step;
 use hse_io::NoMemory;
 use hse_rows::{RowRef, RowSet};
+use prefix_delete::PrefixList;
 use std::alloc::Global;
 use std::marker::Model;
 
@@ -83,6 +86,13 @@ impl<R: RowSet + Drop> Merged<R> {
         ensures { result ≡ self.now.last }
     {
         self.last
+    }
+
+    /// The prefix deletes of all sources, each prefix once with the greatest number.
+    pub fn prefixes(&self, alloc: Global) -> Result<PrefixList, NoMemory>
+        ensures { IfOk result (λ list. list ≡ all_deletes self.now.sources) }
+    {
+        prefixes(alloc, &self.sources)
     }
 
     /// The next merged row in the direction: of each key the newest row, unless a newer prefix delete
