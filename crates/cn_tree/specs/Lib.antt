@@ -1,0 +1,5 @@
+pub mod Path
+pub mod Tree
+pub mod Runs
+pub mod Found
+pub mod Schedule
