@@ -24,7 +24,8 @@ impl Lengths {
     /// With those of one change more.
     pub fn with(self, change: &Change) -> Lengths
         ensures row { IsInUse result.shortest result.longest change.now }
-        ensures older { (other : a_change) → IsInUse self.shortest self.longest other → IsInUse result.shortest result.longest other }
+        ensures older { (other : a_change) → IsInUse self.shortest self.longest other
+            → IsInUse result.shortest result.longest other }
         ensures within { FitsLimits change.now }
     {
         let _lent = change.lent();
