@@ -7,3 +7,4 @@ pub mod Iteration
 pub mod StoreRows
 pub mod OneStore
 pub mod Covered
+pub mod Laws
