@@ -142,7 +142,7 @@ impl<T: Part> Part for Node<T> {
     ghost use Rattle.std.specs.List.{flat_map};
     ghost use Rattle.std.specs.Prelude.{◌*◌, ◌+◌};
     ghost use Rattle.ingest_tree.specs.Parts.{IsSoundNode, IsFilledNode};
-    ghost use Rattle.ingest_tree.specs.Filling.{filled-sound, filled-rows, sound-begins};
+    ghost use Rattle.ingest_tree.specs.laws.Filling.{filled-sound, filled-rows, sound-begins};
 
     ghost rows = { λ node. flat_map T.rows node };
 
