@@ -7,7 +7,7 @@ use Rattle.std.specs.List.{AllByRecursion, flat_map}
 use Rattle.sorted_lists.specs.laws.Lists.{each-append}
 use Rattle.ingest_tree.specs.declared.store_row.StoreRow.{StoreRow}
 use Rattle.ingest_tree.specs.Parts.{Stand}
-use Rattle.ingest_tree.specs.Filling.{all-rows, all-stand, stand-sound}
+use Rattle.ingest_tree.specs.laws.Filling.{all-rows, all-stand, stand-sound}
 use Rattle.ingest_tree.specs.Tree.{branch_rows, leaf_rows, leaves_of, IsFilledLeaf, IsSoundLeaf, IsFilledBranch, IsSoundBranch}
 use Rattle.ingest_tree.proofs.TreeLemmas.{leaf-sound, leaf-has}
 

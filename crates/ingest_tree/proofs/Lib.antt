@@ -6,4 +6,5 @@ pub mod TreeLemmas
 pub mod LeafLemmas
 pub mod StoreLemmas
 pub mod CoverLemmas
+pub mod MoreLemmas
 pub mod RangeLemmas

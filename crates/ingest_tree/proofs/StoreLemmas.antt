@@ -258,7 +258,7 @@ row-less id r x one two less =
     tied : r.store.0 ≡ x.store.0 → (r.store.0 == x.store.0) ≡ true
     tied same = eq-eqb r.store.0 x.store.0 same
 
-kept-same : (id : ℕ) (rows : List StoreRow) → AllByRecursion (λ r. same_store id r ≡ true) (filter (same_store id) rows)
+pub kept-same : (id : ℕ) (rows : List StoreRow) → AllByRecursion (λ r. same_store id r ≡ true) (filter (same_store id) rows)
 kept-same id [] = tt
 kept-same id (r ∷ rows) = by (same_store id r) refl (kept-same id rows)
   where

@@ -12,7 +12,7 @@ use Rattle.ingest_tree.specs.declared.store_row.StoreRow.{StoreRow}
 use Rattle.ingest_tree.specs.Rows.{store_row_cmp}
 use Rattle.ingest_tree.specs.Lengths.{IsInUse}
 use Rattle.ingest_tree.specs.Parts.{Stand}
-use Rattle.ingest_tree.specs.Filling.{all-rows, filled-rows, filled-sound}
+use Rattle.ingest_tree.specs.laws.Filling.{all-rows, filled-rows, filled-sound}
 use Rattle.ingest_tree.specs.Tree.{AreTreeRows, branch_rows, leaf_rows, IsAnyRow, IsFilledLeaf, IsSoundLeaf, IsFilledBranch, IsSoundBranch, IsRoot}
 use Rattle.ingest_tree.proofs.OrderLemmas.{order}
 

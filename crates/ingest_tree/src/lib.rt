@@ -3,6 +3,7 @@
 
 mod builder;
 mod iter;
+mod laws;
 mod lengths;
 mod node;
 mod part;
@@ -13,6 +14,7 @@ mod store_rows;
 mod tree;
 
 pub use iter::IngestIter;
+pub use laws::stores_take_their_rows;
 pub use steps::Steps;
 pub use store_row::StoreRow;
 pub use store_rows::StoreRows;

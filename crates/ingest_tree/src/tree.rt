@@ -1,13 +1,11 @@
 //! Rows of several stores in a tree of shared leaves and branches.
-ghost use Rattle.std.specs.Prelude.{◌≡◌, ◌≤◌, ◌+◌, ◌*◌, ◌/◌, ◌<◌, [], ◌∷◌, length, reverse, slice_get, Some, IfOk};
-ghost use Rattle.std.specs.List.{filter, find as walk};
-ghost use Rattle.std.specs.List.Sorted.{IsStrictlySortedBy};
+ghost use Rattle.std.specs.Prelude.{◌≡◌, ◌≤◌, ◌+◌, ◌*◌, ◌/◌, ◌<◌};
+ghost use Rattle.std.specs.Prelude.{[], ◌∷◌, length, reverse, slice_get, Some, IfOk};
 ghost use Rattle.std.specs.Option.{option_map};
-ghost use Rattle.std.specs.Ordering.{is_eq, is_lt};
-ghost use Rattle.sorted_lists.specs.Places.{with_one};
 ghost use Rattle.hse_rows.specs.Meaning.{own_at, covered_at, greater as greatest_of};
 ghost use Rattle.hse_rows.specs.RowSets.{row_by};
-ghost use Rattle.ingest_tree.specs.Rows.{store_row, store_row_cmp, rows_in, row_at};
+ghost use Rattle.ingest_tree.specs.Rows.{AreRising, store_row, rows_in, row_at};
+ghost use Rattle.ingest_tree.specs.Rows.{rows_with, found_at, count_before};
 ghost use Rattle.ingest_tree.specs.declared.store_row.StoreRow.{StoreRow as a_row};
 ghost use Rattle.ingest_tree.specs.Iteration.{left_of};
 ghost use Rattle.ingest_tree.specs.Parts.{Stand};
@@ -138,7 +136,7 @@ impl IngestTree {
         row: Row,
         steps: &mut Steps<L>,
     ) -> Result<IngestTree, NoMemory>
-        ensures rows { IfOk result (λ tree. tree ≡ with_one store_row_cmp self.now (store_row store row)) }
+        ensures rows { IfOk result (λ tree. tree ≡ rows_with self.now (store_row store row)) }
         ensures cost { steps.new ≤ steps.old + (260 + length self.now / 4096) }
     {
         let lengths = self.lengths.with(&row.change);
@@ -172,29 +170,24 @@ impl IngestTree {
         requires name { blank.name ≡ L.name }
         requires parts { blank.parts ≡ L.parts }
         requires some { 0 < L.parts }
-        ensures { IfOk result (λ tree. tree ≡ with_one store_row_cmp self.now (store_row store row)) }
+        ensures { IfOk result (λ tree. tree ≡ rows_with self.now (store_row store row)) }
     {
         let mut steps = Steps::<L>::new(blank);
         self.with(alloc, store, row, &mut steps)
     }
 
     /// The same for whoever does not count steps.
-    pub fn with_row(
-        &self,
-        alloc: Global,
-        store: StoreId,
-        row: Row,
-    ) -> Result<IngestTree, NoMemory>
-        ensures { IfOk result (λ tree. tree ≡ with_one store_row_cmp self.now (store_row store row)) }
+    pub fn with_row(&self, alloc: Global, store: StoreId, row: Row) -> Result<IngestTree, NoMemory>
+        ensures { IfOk result (λ tree. tree ≡ rows_with self.now (store_row store row)) }
     {
         self.with_from::<Brand>(alloc, store, row, Blank::new(1))
     }
 
     /// The row at a spot.
     pub(crate) fn find(&self, spot: Spot<'_>) -> Option<&StoreRow>
-        ensures rising { IsStrictlySortedBy store_row_cmp self.now }
+        ensures rising { AreRising self.now }
         ensures row { option_map (λ row. row.now) result
-            ≡ walk (λ row. is_eq (store_row_cmp row (row_at spot.entry))) self.now }
+            ≡ found_at (row_at spot.entry) self.now }
     {
         match &self.root {
             None => None,
@@ -240,7 +233,7 @@ impl IngestTree {
     /// How many rows stand before a spot.
     pub(crate) fn place(&self, spot: Spot<'_>) -> u64
         ensures rows { AreRowsOfStores self.now }
-        ensures count { result ≡ length (filter (λ row. is_lt (store_row_cmp row (row_at spot.entry))) self.now) }
+        ensures count { result ≡ count_before (row_at spot.entry) self.now }
     {
         match &self.root {
             None => 0,
@@ -248,8 +241,8 @@ impl IngestTree {
         }
     }
 
-    /// All rows, by store id and then prefix deletes by prefix and changes of keys by key. It takes no
-    /// memory.
+    /// All rows, by store id and then prefix deletes by prefix and changes of keys by key. It takes
+    /// no memory.
     pub fn iter(&self) -> IngestIter<'_>
         ensures { left_of result ≡ self.now }
     {
@@ -273,8 +266,8 @@ impl IngestTree {
         }
     }
 
-    /// The greatest number of a prefix delete of the store that covers the key, by a search for each
-    /// length in use. It takes no memory.
+    /// The greatest number of a prefix delete of the store that covers the key, by a search for
+    /// each length in use. It takes no memory.
     pub fn covered(&self, store: StoreId, key: &[u8]) -> Option<u64>
         ensures { result ≡ covered_at key.now (rows_in store.0 self.now) }
     {

@@ -1,5 +1,5 @@
 //! Trees of rows: leaves, old roots, look-ups, and walks both ways.
-use hse_rows::{Change, Key, Prefix, Row, RowRef, RowSet, StoreId, Value};
+use hse_rows::{Change, Key, Prefix, Row, RowRef, RowSet, Shared, StoreId, Value};
 use ingest_tree::IngestTree;
 use std::alloc::Global;
 use std::process::Abort;
