@@ -9,12 +9,14 @@ ghost use Rattle.merge.specs.Steps.{IsRowAt};
 ghost use Rattle.merge.specs.Deletes.{all_deletes};
 ghost use Rattle.merge.specs.Merge.{StandsAt, IsNext, Goes, last_after};
 
+use crate::covers::are_known;
 use crate::prefixes::prefixes;
 use crate::seeks::{first_places, seek};
 use crate::steps::step;
 use hse_io::NoMemory;
 use hse_rows::{RowRef, RowSet};
 use prefix_delete::PrefixList;
+use row_laws::merged_rows_are_entries;
 use std::alloc::Global;
 use std::marker::Model;
 
@@ -127,6 +129,8 @@ impl<R: RowSet + Drop> Merged<R> {
             → Goes self.old found self.new }
     {
         let found = step(&self.sources, &mut self.places, self.reverse);
+        are_known(&self.sources);
+        merged_rows_are_entries();
         self.last = later(self.last, found);
         found
     }
