@@ -1,0 +1,7 @@
+//! Tests of the parts in memory over their public calls.
+#![tactic(auto)]
+
+#[cfg(test)]
+mod merges;
+#[cfg(test)]
+mod trees;
