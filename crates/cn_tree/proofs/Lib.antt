@@ -1,3 +1,4 @@
 pub mod NodeLemmas
 pub mod RunLemmas
 pub mod FoundLemmas
+pub mod LayoutLemmas

@@ -3,3 +3,4 @@ pub mod Tree
 pub mod Runs
 pub mod Found
 pub mod Schedule
+pub mod Layouts

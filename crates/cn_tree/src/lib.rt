@@ -1,6 +1,7 @@
 //! A store's sets of rows at the nodes of a tree, to which its keys are routed.
 #![tactic(auto)]
 
+mod laws;
 mod lookup;
 mod node;
 mod node_path;
@@ -11,6 +12,7 @@ mod schedule;
 mod tree;
 mod tree_fault;
 
+pub use laws::trees_are_layouts;
 pub use node_path::NodePath;
 pub use routing::route;
 pub use schedule::{Pick, PickKind};

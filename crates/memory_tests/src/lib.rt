@@ -3,3 +3,7 @@
 
 #[cfg(test)]
 mod ingest_trees;
+#[cfg(test)]
+mod merges;
+#[cfg(test)]
+mod trees;

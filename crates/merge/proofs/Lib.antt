@@ -7,3 +7,4 @@ pub mod PastLemmas
 pub mod TurnLemmas
 pub mod SeekLemmas
 pub mod DeleteLemmas
+pub mod ListLemmas

@@ -78,7 +78,7 @@ some-is x y is = cc
 
 -- ---- rows by index
 
-all-at : (P : Row → Type 0) (xs : List Row) (i : ℕ) (a : Row) → AllByRecursion P xs → slice_get xs i ≡ Some a → P a
+pub all-at : (P : Row → Type 0) (xs : List Row) (i : ℕ) (a : Row) → AllByRecursion P xs → slice_get xs i ≡ Some a → P a
 all-at P [] i a all is = let e : None ≡ Some a = is in absurd cc
 all-at P (x ∷ xs) zero a all is = subst P (some-is x a is) all.0
 all-at P (x ∷ xs) (suc i) a all is = all-at P xs i a all.1 is

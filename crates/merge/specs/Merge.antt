@@ -4,6 +4,7 @@ use Rattle.hse_rows.specs.declared.row.Row.{Row}
 use Rattle.hse_rows.specs.Change.{target}
 use Rattle.hse_rows.specs.Cursor.{Direction, Position, past_key, is_reached}
 use Rattle.row_laws.specs.Sources.{all_rows}
+use Rattle.row_laws.specs.Merging.{next_by}
 use Rattle.row_laws.specs.Next.{OwnFalls, lasting_at}
 use Rattle.merge.specs.First.{IsFirstIn}
 use Rattle.merge.specs.Steps.{AreAt, GoesOn, IsRowAt}
@@ -48,8 +49,12 @@ pub record Goes (old : MergeState) (found : Option Row) (new : MergeState) : Typ
   pub there : StandsAt new.sources place found
   pub last : new.last ≡ last_after old.last place
 
--- the row of the first key from each position that the merge stands at
+-- From each position that the merge stands at, the next row of the list of merged rows: that of the first key that has a
+-- row that lasts.
 pub record IsNext (m : MergeState) (found : Option Row) : Type 0 where
+  pub next :
+      (position : Position) → GoesOn m.direction position m.sources m.places
+      → found ≡ next_by m.direction position (all_rows m.sources)
   pub first :
       (position : Position) → GoesOn m.direction position m.sources m.places
       → IsFirstIn m.direction (lasting_at (all_rows m.sources)) (is_reached m.direction position) found

@@ -1,5 +1,6 @@
 //! The next row of each source, and the soonest of them.
-ghost use Rattle.std.specs.Prelude.{◌≡◌, ◌<◌, ◌≤◌, if◌then◌else◌, true, false, IfSome, length as number_of, map, Some, None, slice_get};
+ghost use Rattle.std.specs.Prelude.{◌≡◌, ◌<◌, if◌then◌else◌, true, false, IfSome, Some};
+ghost use Rattle.std.specs.Prelude.{length as number_of};
 ghost use Rattle.hse_rows.specs.Change.{target};
 ghost use Rattle.hse_rows.specs.Meaning.{is_own};
 ghost use Rattle.hse_rows.specs.RowSets.{row_of, row_by};

@@ -9,12 +9,14 @@ ghost use Rattle.merge.specs.Steps.{IsRowAt};
 ghost use Rattle.merge.specs.Deletes.{all_deletes};
 ghost use Rattle.merge.specs.Merge.{StandsAt, IsNext, Goes, last_after};
 
+use crate::covers::are_known;
 use crate::prefixes::prefixes;
 use crate::seeks::{first_places, seek};
 use crate::steps::step;
 use hse_io::NoMemory;
 use hse_rows::{RowRef, RowSet};
 use prefix_delete::PrefixList;
+use row_laws::merged_rows_are_entries;
 use std::alloc::Global;
 use std::marker::Model;
 
@@ -35,9 +37,19 @@ impl<R: RowSet + Drop> Model for Merged<R> {
 
     ghost Value = { MergeState };
 
-    ghost view = { λ m. record { sources = map R.rows m.sources.items; direction = direction_of m.reverse; places = m.places.items; last = m.last } };
+    ghost view = { λ m. record {
+      sources = map R.rows m.sources.items;
+      direction = direction_of m.reverse;
+      places = m.places.items;
+      last = m.last;
+    } };
 
-    ghost invariant = { λ m. (length m.sources.items ≡ length m.places.items) × IsMerge (record { sources = map R.rows m.sources.items; direction = direction_of m.reverse; places = m.places.items; last = m.last }) };
+    ghost invariant = { λ m. (length m.sources.items ≡ length m.places.items) × IsMerge (record {
+      sources = map R.rows m.sources.items;
+      direction = direction_of m.reverse;
+      places = m.places.items;
+      last = m.last;
+    }) };
 }
 
 impl<R: RowSet + Drop> Merged<R> {
@@ -97,7 +109,7 @@ impl<R: RowSet + Drop> Merged<R> {
 
     /// The next merged row in the direction: of each key the newest row, unless a newer prefix delete
     /// of any source covers it. There is none where no key is left, and then nothing changes. It takes
-    /// no memory, searches no place, and reads at most two rows a source for each row that it passes.
+    /// no memory, searches no place, and reads at most three rows a source for each key that it passes.
     pub fn next(&mut self) -> Option<RowRef<'_>>
         ensures row { IsNext self.old (row_by result) }
         ensures* after { sem 𝓛 (follows_so (the_row R.row R.RowSet) (the_row R.row R.RowSet)
@@ -127,6 +139,8 @@ impl<R: RowSet + Drop> Merged<R> {
             → Goes self.old found self.new }
     {
         let found = step(&self.sources, &mut self.places, self.reverse);
+        are_known(&self.sources);
+        merged_rows_are_entries();
         self.last = later(self.last, found);
         found
     }

@@ -73,3 +73,8 @@ LastingRowsLeaveValues =
 -- Where the numbers of all rows that reach a key fall, those of its own rows do.
 abbrev pub FallingRowsFallAlone : Type 0
 FallingRowsFallAlone = (sources : List (List Row)) (key : List ℕ) → Falls key sources → OwnFalls key sources
+
+-- The merged rows hold of each key its lasting row.
+abbrev pub MergedRowsHoldLastingRows : Type 0
+MergedRowsHoldLastingRows =
+    (rows : List Row) (key : List ℕ) → AreOncePerNumber rows → own_at key (key_rows rows) ≡ lasting_at rows key

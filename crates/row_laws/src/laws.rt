@@ -1,7 +1,7 @@
 //! Laws of the definitions. Each function does nothing; its contract is the law.
 ghost use Rattle.row_laws.specs.Laws.{KeysHoldNewestRows, FirstSourcesDecide, LayersFall, PathsDecide, FallingRowsFallAlone};
 ghost use Rattle.row_laws.specs.Laws.{RowsChangeContents, NewestRowsMeanTheSame, RowsInOrderApply};
-ghost use Rattle.row_laws.specs.Laws.{MergedRowsAreEntries, NextRowsAreFirst, LastingRowsLeaveValues};
+ghost use Rattle.row_laws.specs.Laws.{MergedRowsAreEntries, NextRowsAreFirst, LastingRowsLeaveValues, MergedRowsHoldLastingRows};
 
 /// A key has the value of its own newest row, unless a covering prefix delete has a greater number.
 pub fn keys_hold_newest_rows()
@@ -35,4 +35,5 @@ pub fn merged_rows_are_entries()
     ensures entries { MergedRowsAreEntries }
     ensures next { NextRowsAreFirst }
     ensures values { LastingRowsLeaveValues }
+    ensures lasting { MergedRowsHoldLastingRows }
 {}

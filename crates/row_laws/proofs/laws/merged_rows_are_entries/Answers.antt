@@ -1,4 +1,5 @@
 use Rattle.row_laws.proofs.EntryLemmas.{rising-key_rows, entries-pairs}
+use Rattle.row_laws.proofs.ListLemmas.{own-merged}
 use Rattle.row_laws.proofs.NextListLemmas.{first-is_next, get-lasting}
 use Rattle.row_laws.proofs.laws.merged_rows_are_entries.Goals as goal
 
@@ -10,3 +11,6 @@ returns-clause-next c = λ rows past edge found once first. first-is_next rows o
 
 pub returns-clause-values : goal.returns-clause-values
 returns-clause-values c = get-lasting
+
+pub returns-clause-lasting : goal.returns-clause-lasting
+returns-clause-lasting c = λ rows key once. own-merged key rows once

@@ -2,7 +2,12 @@ use Rattle.std.proofs.Common.{◌≡◌, List, ℕ, length, map, refl, sym, ap, 
 use Rattle.std.proofs.lemmas.List.{with_items_is}
 use Rattle.std.specs.Prelude.{IfSome}
 use Rattle.hse_rows.specs.declared.row.Row.{Row}
+use Rattle.std.specs.List.{AllByRecursion}
+use Rattle.hse_rows.specs.RowSets.{AreRows}
+use Rattle.row_laws.specs.Sources.{all_rows}
+use Rattle.row_laws.specs.Merging.{AreOncePerNumber}
 use Rattle.row_laws.specs.Next.{OwnFalls}
+use Rattle.merge.proofs.ListLemmas.{once-all, first-listed, reverse-more}
 use Rattle.merge.specs.Places.{direction_of}
 use Rattle.merge.specs.Steps.{AreAt, GoesOn, IsRowAt}
 use Rattle.merge.specs.Merge.{MergeState, IsNext, position_after}
@@ -27,8 +32,17 @@ returns-clause-there g c =
 pub returns-clause-row : goal.returns-clause-row
 returns-clause-row g c =
     let given = rw (c.deref.ensures.value, c.deref_mut.ensures.value) at c.step-found.ensures.given in
+    let sources = map g.R.RowSet.rows c.self.inside.sources.items in
+    let rows = all_rows sources in
+    let known = subst (λ s. AllByRecursion AreRows (map g.R.RowSet.rows s)) c.deref-2.ensures.value c.are_known.ensures in
+    let once : AreOncePerNumber rows = once-all sources known c.self.invariant.1.falls in
     λ found stands.
     subst (λ (m : MergeState). IsNext m found) c.self.view_is (record {
+      next = λ position goes.
+          first-listed reverse-more (direction_of c.self.inside.reverse) position rows found
+          (c.merged_rows_are_entries.ensures.entries rows once).0
+          (λ key. c.merged_rows_are_entries.ensures.lasting rows key once)
+          (given-first (direction_of c.self.inside.reverse) position sources c.step-found.result c.step-found.new.places found (given position goes) stands);
       first = λ position goes.
           given-first (direction_of c.self.inside.reverse) position (map g.R.RowSet.rows c.self.inside.sources.items)
           c.step-found.result c.step-found.new.places found (given position goes) stands;
