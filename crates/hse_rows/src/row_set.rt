@@ -70,7 +70,7 @@ impl<R: RowSet> RowSet for &R {
 
 /// A set of rows whose parts several owners share.
 pub trait Shared: RowSet + Drop + Sized {
-    /// One more owner of the same rows.
+    /// One more owner of the same value, which shares its parts.
     fn share(&self, alloc: Global) -> Result<Self, NoMemory>
-        ensures { IfOk result (λ twin. Self.rows twin ≡ Self.rows self.now) };
+        ensures { IfOk result (λ twin. twin ≡ self.now) };
 }
