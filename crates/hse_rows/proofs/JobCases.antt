@@ -128,11 +128,38 @@ an_install_makes_nothing_safe : map (λ m. m.core.safe) (of_two_layers ∷ inges
 unfolding normal_form newest
 an_install_makes_nothing_safe = refl
 
+-- ---- the whole state that starts another half
+
+-- a half that has no byte left, and these numbers
+abbrev in_full_half : Script → List ℕ → Script
+in_full_half script taken = with_manifest script (record { sequence = 1; used = 65536; taken = taken })
+
+-- 10 + 5 + 25 bytes, 16 of the store, and 25 of the node with the new set
+it_has_the_sets_of_an_install :
+    (led (in_full_half ingest_built (1 ∷ [])) (take_install j ∷ write_turn ∷ end_turn ∷ [])).core.manifest
+    ≡ record { sequence = 2; used = 81; taken = [] }
+unfolding normal_form newest
+it_has_the_sets_of_an_install = refl
+
+-- 10 + 5 + 25 bytes, and 8 of the run of the drop's number
+and_none_of_a_dropped_store :
+    (done (in_full_half ingested []) (turn (drop s))).core.manifest
+    ≡ record { sequence = 2; used = 48; taken = 5 ∷ [] }
+unfolding normal_form newest
+and_none_of_a_dropped_store = refl
+
 -- ---- runs
 
 -- two sets at the root, of b over a
 abbrev of_two_sets : Script
 of_two_sets = led ingested (job ingest ∷ [])
+
+-- 10 + 5 + 25 bytes, 16 of the store, and 25 of the node with one set in place of two
+a_whole_state_has_the_new_set_alone :
+    (done (in_full_half of_two_sets []) (job (of_run values s [] 0 2))).core.manifest
+    ≡ record { sequence = 2; used = 81; taken = [] }
+unfolding normal_form newest
+a_whole_state_has_the_new_set_alone = refl
 
 the_newest_set_stands_in_front :
     of_two_sets.core.layout
