@@ -110,7 +110,7 @@ the_manifest_has_it_not : broken_creation.core.manifest.taken ≡ []
 the_manifest_has_it_not = refl
 
 a_new_device_is_in_order : IsInOrder (formatted device)
-a_new_device_is_in_order = record { layers = omega arith; active = tt; taken = tt }
+a_new_device_is_in_order = record { layers = omega arith; active = omega arith; taken = tt }
 
 -- and within the limits, so that each script on it is sound
 it_may_be_loaded : IsLoadable (formatted device)
