@@ -203,13 +203,15 @@ module _ (m : Core) (good : IsWithinLimits m) where
   }
 
   -- a turn up to the last number
-  pub up_to_now : (plan : Plan) → PlanFits m.sizes plan → (m.safe ≤ number_of m) × (number_of m ≤ number_of m) × PlanFits m.sizes plan
+  pub up_to_now : (plan : Plan) → PlanFits m.sizes m.safe (number_of m) plan
+      → (m.safe ≤ number_of m) × (number_of m ≤ number_of m) × PlanFits m.sizes m.safe (number_of m) plan
   up_to_now plan fits =
       let self : number_of m ≤ number_of m = omega arith in
       (good.until_now, self, fits)
 
   -- a turn up to what is safe
-  pub up_to_safe : (plan : Plan) → PlanFits m.sizes plan → (m.safe ≤ m.safe) × (m.safe ≤ number_of m) × PlanFits m.sizes plan
+  pub up_to_safe : (plan : Plan) → PlanFits m.sizes m.safe m.safe plan
+      → (m.safe ≤ m.safe) × (m.safe ≤ number_of m) × PlanFits m.sizes m.safe m.safe plan
   up_to_safe plan fits =
       let self : m.safe ≤ m.safe = omega arith in
       (self, good.until_now, fits)

@@ -69,7 +69,7 @@ module _ (m : Core) (good : IsWithinLimits m) where
       (λ job is passed.
       with_turn_within (with_installing m job) (installing_within m good job passed) _ m.is_broken
       (up_to_safe (with_installing m job) (installing_within m good job passed)
-      (installs id job.work job.sets (entered m (install_entry m job.work job.sets))) (install_entry_fits m good job passed))) none
+      (installs id job.work job.sets (entered m (install_entry m job.work job.sets))) (refl, install_entry_fits m good job passed))) none
 
   written_within : (has_failed is_broken : Bool) (turn : Turn) → m.turn ≡ turn → IsWithinLimits (record m { turn = turns.written turn has_failed; is_broken = is_broken })
   written_within has_failed is_broken turn is =
@@ -99,7 +99,7 @@ module _ (m : Core) (good : IsWithinLimits m) where
         turn = tt;
       }
 
-  planned_within : (number : ℕ) (plan : Plan) → (m.safe ≤ number) × (number ≤ number_of m) × PlanFits m.sizes plan
+  planned_within : (number : ℕ) (plan : Plan) → (m.safe ≤ number) × (number ≤ number_of m) × PlanFits m.sizes m.safe number plan
       → IsWithinLimits (record (planned m number plan) { turn = home })
   planned_within number settles fits = safer number m.manifest fits.0 fits.1 good.manifest
   planned_within number (enters manifest) fits = safer number manifest fits.0 fits.1 fits.2
@@ -123,7 +123,7 @@ module _ (m : Core) (good : IsWithinLimits m) where
       record {
         history = good.history;
         log = log_after_fits m.sizes m.log work good.log;
-        manifest = fits.2;
+        manifest = fits.2.1;
         slots = omega (arith, used);
         since_base = good.since_base;
         until_now = good.until_now;

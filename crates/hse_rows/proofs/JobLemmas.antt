@@ -1,15 +1,16 @@
 -- A job that was just picked, among those with ids below it.
 use Rattle.std.specs.Prelude.{◌==◌}
-use Rattle.std.specs.List.{AllByRecursion, filter}
+use Rattle.std.specs.List.{AllByRecursion}
 use Rattle.std.proofs.Common.{◌≡◌, ℕ, ◌+◌, ◌<◌, Bool, true, false, not, cond, List, [], ◌∷◌, ◌++◌, Option, Some, None, refl, sym, ◌∙◌, ap, subst, arith}
 use Rattle.std.proofs.lemmas.Bool.Decides.{nat_tests}
+use Rattle.hse_rows.specs.Rising.{Rise, rise-below}
 use Rattle.hse_rows.specs.State.{store_named}
 use Rattle.hse_rows.specs.Timeline.{for_some}
 use Rattle.hse_rows.specs.Layout.{NewSet}
-use Rattle.hse_rows.specs.Job.{JobWish, ingest, of_run, Work, on_run, Job, JobState, picked, built, is_picked, is_installing, job_of}
+use Rattle.hse_rows.specs.Job.{JobWish, ingest, of_run, Work, on_run, Job, AreNumbered, JobState, picked, built, is_picked, is_installing, job_of}
 use Rattle.hse_rows.specs.Replies as replies
 use Rattle.hse_rows.specs.Calls.{build, drop_job}
-use Rattle.hse_rows.specs.Core.{Core, JobsAreNumbered, now}
+use Rattle.hse_rows.specs.Core.{Core, now}
 use Rattle.hse_rows.specs.CoreRefusal.{refusal, refuse, pick_refusal, with_job}
 use Rattle.hse_rows.specs.CoreReply.{sets_for}
 use Rattle.hse_rows.specs.CoreDone.{done, without_job, with_state, with_picked, picking, building, run_of}
@@ -46,35 +47,20 @@ last_gone (job ∷ jobs) last below =
     (other_id job.id last.id below.0)
     ∙ ap (λ (l : List Job). job ∷ l) (last_gone jobs last below.1)
 
--- ---- ids stay below
+-- ---- ids
 
-pub joined_below : (number : ℕ) (jobs : List Job) (last : Job) → AreBelow number jobs → last.id < number → AreBelow number (jobs ++ last ∷ [])
-joined_below number [] last below less = (less, tt)
-joined_below number (job ∷ jobs) last below less = (below.0, joined_below number jobs last below.1 less)
+pub numbered_below : (jobs : List Job) (count : ℕ) → AreNumbered jobs count → AreBelow count jobs
+numbered_below jobs count numbered = rise-below (λ (job : Job). job.id) 0 count jobs numbered
 
-pub further_below : (low high : ℕ) (jobs : List Job) → low < high → AreBelow low jobs → AreBelow high jobs
-further_below low high [] more below = tt
-further_below low high (job ∷ jobs) more below =
-    let here : job.id < low = below.0 in
-    let there : job.id < high = omega (arith, here, more) in
-    (there, further_below low high jobs more below.1)
-
-pub led_below : (number id : ℕ) (state : JobState) (sets : List NewSet) (jobs : List Job) → AreBelow number jobs
-    → AreBelow number (with_state jobs id state sets)
-led_below number id state sets [] below = tt
-led_below number id state sets (job ∷ jobs) below = (by (job.id == id), led_below number id state sets jobs below.1)
+pub led_numbered : (low high id : ℕ) (state : JobState) (sets : List NewSet) (jobs : List Job) → Rise (λ job. job.id) low high jobs
+    → Rise (λ job. job.id) low high (with_state jobs id state sets)
+led_numbered low high id state sets [] rises = rises
+led_numbered low high id state sets (job ∷ jobs) rises = by (job.id == id) (led_numbered (job.id + 1) high id state sets jobs rises.1)
   where
-    by : (b : Bool) → (cond b (record job { state = state; sets = sets }) job).id < number
-    by true = below.0
-    by false = below.0
-
-pub fewer_below : (number : ℕ) (p : Job → Bool) (jobs : List Job) → AreBelow number jobs → AreBelow number (filter p jobs)
-fewer_below number p [] below = tt
-fewer_below number p (job ∷ jobs) below = by (p job) (fewer_below number p jobs below.1)
-  where
-    by : (b : Bool) → AreBelow number (filter p jobs) → AreBelow number (cond b (job ∷ filter p jobs) (filter p jobs))
-    by true rest = (below.0, rest)
-    by false rest = rest
+    by : (b : Bool) → Rise (λ job. job.id) (job.id + 1) high (with_state jobs id state sets)
+        → Rise (λ job. job.id) low high (cond b (record job { state = state; sets = sets }) job ∷ with_state jobs id state sets)
+    by true rest = (rises.0, rest)
+    by false rest = (rises.0, rest)
 
 -- ---- a pick
 
@@ -87,7 +73,7 @@ picks m (of_run kind name path from len) none =
     (λ store is none. (_, refl, (passes m.is_broken replies.broken _ none).0)) none
 
 -- and adds a job to those that are there
-module _ (m : Core) (numbered : JobsAreNumbered m) (work : Work) where
+module _ (m : Core) (numbered : AreBelow m.picked m.jobs) (work : Work) where
   abbrev pub new_job : Job
   new_job = record { id = m.picked; work = work; state = picked; sets = [] }
 

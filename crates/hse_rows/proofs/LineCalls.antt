@@ -9,7 +9,7 @@ use Rattle.hse_rows.specs.Replies as replies
 use Rattle.hse_rows.specs.Replies.{Refusal, Answer}
 use Rattle.hse_rows.specs.Calls.{inside, outside, Call}
 use Rattle.hse_rows.specs.Calls as call
-use Rattle.hse_rows.specs.Core.{JobsAreNumbered, now}
+use Rattle.hse_rows.specs.Core.{now}
 use Rattle.hse_rows.specs.CoreRefusal as core
 use Rattle.hse_rows.specs.CoreDone as leads
 use Rattle.hse_rows.specs.Schedule.{next_wish}
@@ -22,6 +22,7 @@ use Rattle.hse_rows.specs.ScriptStep.{CallsForSome, MayFail}
 use Rattle.hse_rows.specs.ScriptCalls.{Leads, turn_calls, calls_of}
 use Rattle.hse_rows.proofs.CoreAnswers.{IsOther}
 use Rattle.hse_rows.proofs.ScriptGoes.{not_told, passed}
+use Rattle.hse_rows.proofs.JobLemmas.{AreBelow}
 use Rattle.hse_rows.proofs.ScriptRuns.{take_takes, install_takes, one, turn_led, turn_failed_led, built_first}
 
 -- ---- lines
@@ -93,7 +94,7 @@ module _ (f : Found) (s : Script) where
       (going_on t.state _ here)))
       (passed (is_some (cursor_named s name)) replies.name_used _ none)
 
-  module _ (numbered : JobsAreNumbered s.core) where
+  module _ (numbered : AreBelow s.core.picked s.core.jobs) where
     job_led : (wish : JobWish) → job_refusal s wish ≡ None → Leads f s.core (calls_of s (job wish)) (done s (job wish)).core
     job_led wish none =
         let both = both_pass (asked s (call.pick wish)) _ none in

@@ -7,7 +7,7 @@ use Rattle.hse_rows.specs.Replies as replies
 use Rattle.hse_rows.specs.Replies.{Refusal, Answer}
 use Rattle.hse_rows.specs.Calls.{Call}
 use Rattle.hse_rows.specs.Calls as call
-use Rattle.hse_rows.specs.Core.{Core, JobsAreNumbered, life}
+use Rattle.hse_rows.specs.Core.{Core, life}
 use Rattle.hse_rows.specs.CoreRefusal as core
 use Rattle.hse_rows.specs.CoreDone as leads
 use Rattle.hse_rows.specs.Schedule.{next_wish}
@@ -22,6 +22,7 @@ use Rattle.hse_rows.specs.ScriptCalls.{Leads, turn_calls, job_calls, calls_of}
 use Rattle.hse_rows.proofs.CoreAnswers.{IsOther}
 use Rattle.hse_rows.proofs.ScriptGoes.{not_told}
 use Rattle.hse_rows.proofs.ScriptRuns.{refused_led, dropped_led}
+use Rattle.hse_rows.proofs.JobLemmas.{AreBelow}
 use Rattle.hse_rows.proofs.LineCalls.{line_led, line_failed_led}
 
 -- ---- calls that reopen nothing
@@ -95,7 +96,7 @@ module _ (f : Found) where
   abbrev Led : Line → Core → Core → Type 0
   Led line old new = (calls : List Call) × Leads f old calls new × (line ≢ reopen → AreOther calls)
 
-  module _ (s : Script) (numbered : JobsAreNumbered s.core) where
+  module _ (s : Script) (numbered : AreBelow s.core.picked s.core.jobs) where
     -- nothing changes
     rests : (line : Line) (new : Script) → new ≡ s → Led line s.core new.core
     rests line new is = ([], ap (λ (x : Script). x.core) is, λ apart. tt)

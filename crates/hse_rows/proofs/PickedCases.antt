@@ -1,5 +1,5 @@
 -- Small cases of jobs that are refused after their pick, the calls of lines, and what log and manifest record, worked by hand.
-use Rattle.std.proofs.Common.{◌≡◌, inl, inr, ℕ, [], ◌∷◌, refl, arith}
+use Rattle.std.proofs.Common.{◌≡◌, inl, inr, ℕ, ◌≤◌, [], ◌∷◌, refl, arith}
 use Rattle.std.specs.Prelude.{codes}
 use Rattle.hse_rows.specs.declared.store.Mode.TheVariants.{Plain}
 use Rattle.hse_rows.specs.NormalForm.{normal_form}
@@ -112,18 +112,27 @@ the_manifest_has_it_not = refl
 a_new_device_is_in_order : IsInOrder (formatted device)
 a_new_device_is_in_order = record { layers = omega arith; active = omega arith; taken = tt }
 
+-- a log with a commit that the horizon passed is in no order
+a_commit_that_is_not_above_it_is_not : ¬ IsInOrder (record (formatted device) {
+  base = record { number = 1; stores = [] };
+  log = record { horizon = 1; first_segment = 2; frozen = []; active = record { number = 1; writes = [] } ∷ [] };
+})
+a_commit_that_is_not_above_it_is_not ordered =
+    let above : 2 ≤ 1 = ordered.active.0 in
+    absurd (omega (arith, above))
+
 -- and within the limits, so that each script on it is sound
 it_may_be_loaded : IsLoadable (formatted device)
 it_may_be_loaded = record {
   limits = record {
     history = record { numbers = omega arith; stores = omega arith };
-    log = record { room = omega arith; layers = omega arith; segments = omega arith };
+    log = record { room = omega arith; layers = omega arith; frozen = tt; segments = omega arith };
     manifest = record { used = omega arith; sequence = omega arith };
     slots = omega arith;
     since_base = omega arith;
     until_now = omega arith;
     transactions = record { live = omega arith; begins = omega arith };
-    jobs = record { live = omega arith; ids = tt };
+    jobs = record { live = omega arith; ids = omega arith };
     cursors = omega arith;
     turn = tt;
   };

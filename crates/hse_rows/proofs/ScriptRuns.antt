@@ -7,7 +7,7 @@ use Rattle.hse_rows.specs.Replies as replies
 use Rattle.hse_rows.specs.Replies.{Refusal, Answer}
 use Rattle.hse_rows.specs.Calls.{inside, outside, Call}
 use Rattle.hse_rows.specs.Calls as call
-use Rattle.hse_rows.specs.Core.{Core, JobsAreNumbered, now}
+use Rattle.hse_rows.specs.Core.{Core, now}
 use Rattle.hse_rows.specs.CoreRefusal.{take_refusal, install_refusal, drop_refusal, unless_not_taken, unless_run_well}
 use Rattle.hse_rows.specs.CoreRefusal as core
 use Rattle.hse_rows.specs.CoreReply as replied
@@ -19,7 +19,7 @@ use Rattle.hse_rows.specs.ScriptDone.{turned, turn_failed}
 use Rattle.hse_rows.specs.ScriptCalls.{Leads, turn_calls}
 use Rattle.hse_rows.proofs.PassLemmas.{found, found_job}
 use Rattle.hse_rows.proofs.CoreAnswers.{IsOther, call_passes}
-use Rattle.hse_rows.proofs.JobLemmas.{picks, with_built_job, build_passes, built_is, picked_drops, built_drops, picked_gone, built_gone}
+use Rattle.hse_rows.proofs.JobLemmas.{AreBelow, picks, with_built_job, build_passes, built_is, picked_drops, built_drops, picked_gone, built_gone}
 
 -- ---- turns
 
@@ -93,7 +93,7 @@ module _ (f : Found) where
 
   -- ---- jobs
 
-  module _ (m : Core) (numbered : JobsAreNumbered m) (wish : JobWish) (none : core.refusal m (call.pick wish) ≡ None) where
+  module _ (m : Core) (numbered : AreBelow m.picked m.jobs) (wish : JobWish) (none : core.refusal m (call.pick wish) ≡ None) where
     built_passes : core.refusal (leads.done m (call.pick wish)) (call.build m.picked) ≡ None
     built_passes =
         let it = picks m wish none in

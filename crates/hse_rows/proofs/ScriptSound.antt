@@ -20,6 +20,7 @@ use Rattle.hse_rows.proofs.CoreGoes.{failing_keeps}
 use Rattle.hse_rows.proofs.CoreLimits.{failing_within, step_keeps_limits}
 use Rattle.hse_rows.proofs.StandLemmas.{opened_stands, step_stands}
 use Rattle.hse_rows.proofs.CoreKeepsRecords.{life_recorded, failing_is_recorded, other_records}
+use Rattle.hse_rows.proofs.JobLemmas.{numbered_below}
 use Rattle.hse_rows.proofs.LineSteps.{step_calls}
 
 -- ---- calls
@@ -105,7 +106,7 @@ nothing_loaded since (has_version version) line answer other = refl
 other_sound : (since : Stored) (found : Found) (old new : Script) (line : Line) (answer : Answer (List ℕ)) → IsOtherLine line → LoadsSound found → IsSound since old.core
     → Step found old line answer new → IsSound since new.core
 other_sound since found old new line answer other sound good step =
-    let led = step_calls found old good.limits.jobs.ids new line answer step in
+    let led = step_calls found old (numbered_below old.core.jobs old.core.picked good.limits.jobs.ids) new line answer step in
     calls_sound since found sound old.core new.core led.0 (led.2 (λ is. subst IsOtherLine is other)) good led.1
 
 pub line_sound : (since : Stored) (found : Found) (old new : Script) (line : Line) (answer : Answer (List ℕ)) → LoadsSound found → IsSound since old.core

@@ -52,13 +52,14 @@ CommitsAreNotCanceled =
 
 -- ---- what turns and jobs leave
 
--- the calls that may change the history or a transaction
+-- the turns that are events
 abbrev pub TakesEvent : TurnWish → Type 0
 TakesEvent sync = ⊥
 TakesEvent freeze = ⊥
 TakesEvent (create name mode prefix) = Unit {0}
 TakesEvent (drop name) = Unit {0}
 
+-- the calls that may change the history or a transaction
 abbrev pub ChangesTimeline : Call → Type 0
 ChangesTimeline begin = Unit {0}
 ChangesTimeline (write_by actor name change) = Unit {0}

@@ -2,6 +2,7 @@
 use Rattle.std.specs.Prelude.{ℕ, ◌+◌, ◌-◌, ◌==◌, Bool, true, false, ◌&&◌, if◌then◌else◌, List, [], map, sum_by, Option}
 use Rattle.std.specs.List.{find}
 use Rattle.hse_rows.specs.NormalForm.{same}
+use Rattle.hse_rows.specs.Rising.{Rise}
 use Rattle.hse_rows.specs.State.{Store}
 use Rattle.hse_rows.specs.Log.{Numbered}
 use Rattle.hse_rows.specs.Layout.{RowsInBlocks, Layout, sets_at, with_sets, run_in, in_place_of_run, NewSet, new_sets, in_fronts, ingest_sets, compaction_of, key_compaction_of, spill_of}
@@ -49,6 +50,10 @@ pub record Job : Type 0 where
   pub state : JobState
   -- what was built
   pub sets : List NewSet
+
+-- the jobs' ids differ, in the order picked, and are less than the count of picks
+abbrev pub AreNumbered : List Job → ℕ → Type 0
+AreNumbered jobs count = Rise (λ job. job.id) 0 count jobs
 
 abbrev pub is_picked : JobState → Bool
 is_picked picked = true

@@ -33,7 +33,7 @@ pub data Plan : Type 0 where
 
 pub record TakenTurn : Type 0 where
   pub kind : TurnKind
-  -- All up to it is safe once the turn ended: the last number, but an install makes nothing safe.
+  -- All up to it is safe once the turn ended. It is the last number when the turn was taken, and an install's is the safe one.
   pub number : ℕ
   pub plan : Plan
   -- it calls the device: a sync does where commits wait for it

@@ -45,18 +45,20 @@ pub fn calls_have_one_answer()
 {}
 
 /// Each call, and so each run, keeps within the limits, where what is loaded is: the log's commits
-/// have room in their segment and at most three layers are frozen, the manifest's batches have room in
-/// their half, no more slots are used than there are, numbers, sequences and counts of stores, live
-/// transactions, begins, jobs and cursors are within their limits, the id of each job is less than the
-/// count of picks, and what is safe is between the base and the last number.
+/// have room in their segment, at most three layers are frozen, each with a commit and within its
+/// segment, the manifest's batches have room in their half, no more slots are used than there are,
+/// numbers, sequences and counts of stores, live transactions, begins, jobs and cursors are within
+/// their limits, the jobs' ids differ and are less than the count of picks, what is safe is between the
+/// base and the last number, and so is a turn's number, which is what is safe for an install.
 pub fn calls_keep_limits()
     ensures steps { StepsKeepLimits }
     ensures runs { RunsKeepLimits }
 {}
 
 /// In every run each commit since the life began stands in the log, with those that the device stored
-/// then, or its number is up to the horizon. While no device call failed, the manifest has the numbers
-/// of the creations and drops above the horizon, but for one whose turn is out. A life begins so.
+/// then, or its number is up to the horizon. What stands there is above the horizon and rises, each
+/// layer above the older ones. While no device call failed, the manifest has the numbers of the
+/// creations and drops above the horizon, but for one whose turn is out. A life begins so.
 pub fn calls_are_recorded()
     ensures lives { LivesBeginRecorded }
     ensures steps { StepsKeepRecords }
