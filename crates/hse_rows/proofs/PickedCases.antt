@@ -7,7 +7,7 @@ use Rattle.hse_rows.specs.Newest.{newest}
 use Rattle.hse_rows.specs.Sizes.{Sizes}
 use Rattle.hse_rows.specs.Job.{ingest}
 use Rattle.hse_rows.specs.Turn.{freeze, create, Turn, home, taken, ran}
-use Rattle.hse_rows.specs.Replies.{accepted, refused, full, node_busy}
+use Rattle.hse_rows.specs.Replies.{accepted, broken, device_fault, full, node_busy, ok, refused, written}
 use Rattle.hse_rows.specs.Calls as call
 use Rattle.hse_rows.specs.Core.{formatted, life}
 use Rattle.hse_rows.specs.Recorded.{taken_in, due, IsRecorded, IsInOrder}
@@ -15,7 +15,7 @@ use Rattle.hse_rows.specs.ScriptLines.{pick, build, take, take_install, turn, jo
 use Rattle.hse_rows.specs.Script.{Script}
 use Rattle.hse_rows.specs.ScriptDone.{failing, once_picked}
 use Rattle.hse_rows.specs.ScriptStep.{LacksMemory}
-use Rattle.hse_rows.specs.ScriptCalls.{calls_of}
+use Rattle.hse_rows.specs.ScriptCalls.{told_by, calls_of}
 use Rattle.hse_rows.specs.ScriptLaws.{IsLoadable}
 use Rattle.hse_rows.proofs.RowCases.{device, started, led, answers, put_out, a, b, s, one}
 
@@ -108,6 +108,13 @@ it_is_an_event = refl
 
 the_manifest_has_it_not : broken_creation.core.manifest.taken ≡ []
 the_manifest_has_it_not = refl
+
+-- calls in a row tell the first answer that is not of one that was done, or else the last
+a_fault_tells : told_by accepted (device_fault ∷ refused broken ∷ []) ≡ device_fault
+a_fault_tells = refl
+
+the_last_tells : told_by accepted (written ∷ ok 3 ∷ []) ≡ ok 3
+the_last_tells = refl
 
 a_new_device_is_in_order : IsInOrder (formatted device)
 a_new_device_is_in_order = record { layers = omega arith; active = omega arith; taken = tt }

@@ -21,7 +21,7 @@ use Rattle.hse_rows.specs.Script.{Script, begins_with}
 use Rattle.hse_rows.specs.ScriptRefusal.{refusal}
 use Rattle.hse_rows.specs.ScriptDone.{turned, turn_failed, turn_reply, once_picked}
 use Rattle.hse_rows.specs.ScriptStep.{Step, answer_of, led_to}
-use Rattle.hse_rows.specs.ScriptCalls.{Leads, calls_of}
+use Rattle.hse_rows.specs.ScriptCalls.{LeadsAnswered, calls_of}
 
 -- ---- runs
 
@@ -78,12 +78,13 @@ DropsAreOneStep =
 
 -- ---- lines as calls of the core
 
--- Each step of the script machine leads the core on by calls, each answered as it may be. No line but a reopening reopens.
+-- Each step of the script machine leads the core on by calls, each answered as it may be. What they tell is the line's
+-- answer. No line but a reopening reopens.
 abbrev pub LinesAreCalls : Type 0
 LinesAreCalls =
     (found : Found) (old new : Script) (line : Line) (answer : Answer (List ℕ))
     → AreNumbered old.core.jobs old.core.picked → Step found old line answer new
-    → (calls : List Call) × Leads found old.core calls new.core
+    → (calls : List Call) × LeadsAnswered found old calls new.core answer
     × (line ≢ reopen → AllByRecursion (λ one. one ≢ call.reopen) calls)
 
 -- And those of a line that nothing refuses are its phases in a row.
@@ -91,7 +92,7 @@ abbrev pub LinesAreTheirPhases : Type 0
 LinesAreTheirPhases =
     (found : Found) (old new : Script) (line : Line) (answer : Answer (List ℕ))
     → AreNumbered old.core.jobs old.core.picked → refusal old line ≡ None → answer ≢ no_memory → Step found old line answer new
-    → Leads found old.core (calls_of old line) new.core
+    → LeadsAnswered found old (calls_of old line) new.core answer
 
 -- ---- answers
 

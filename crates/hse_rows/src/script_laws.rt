@@ -16,7 +16,8 @@ pub fn turns_are_one_step()
 {}
 
 /// A line is a run of calls of the core, each answered as it may be, and no line but a reopening
-/// reopens. The calls of a line that nothing refuses are its phases in a row.
+/// reopens. The calls of a line that nothing refuses are its phases in a row. The answer of a line that
+/// has calls is the answer of the first that was not done, or else of the last, with names.
 pub fn lines_are_calls()
     ensures calls { LinesAreCalls }
     ensures phases { LinesAreTheirPhases }
