@@ -13,7 +13,7 @@ use Rattle.hse_rows.specs.Log.{LogState, logged}
 use Rattle.hse_rows.specs.ManifestRoom.{fits}
 use Rattle.hse_rows.specs.Job.{JobWish, ingest, of_run, Work, ingesting, on_run, Job, JobState, job_of, needed_blocks, live_ingest, claimer, first_on, is_picked, is_built}
 use Rattle.hse_rows.specs.Job as job_states
-use Rattle.hse_rows.specs.Turn.{Plan, Turn}
+use Rattle.hse_rows.specs.Turn.{TurnKind, Plan, Turn}
 use Rattle.hse_rows.specs.Replies as replies
 use Rattle.hse_rows.specs.Replies.{Refusal, Answer}
 use Rattle.hse_rows.specs.Calls.{begin, take_place, give_place}
@@ -203,16 +203,16 @@ module _ (m : Core) (good : IsWithinLimits m) where
   }
 
   -- a turn up to the last number
-  pub up_to_now : (plan : Plan) → PlanFits m.sizes m.safe (number_of m) plan
-      → (m.safe ≤ number_of m) × (number_of m ≤ number_of m) × PlanFits m.sizes m.safe (number_of m) plan
-  up_to_now plan fits =
+  pub up_to_now : (kind : TurnKind) (plan : Plan) → PlanFits m.sizes m.safe kind (number_of m) plan
+      → (m.safe ≤ number_of m) × (number_of m ≤ number_of m) × PlanFits m.sizes m.safe kind (number_of m) plan
+  up_to_now kind plan fits =
       let self : number_of m ≤ number_of m = omega arith in
       (good.until_now, self, fits)
 
   -- a turn up to what is safe
-  pub up_to_safe : (plan : Plan) → PlanFits m.sizes m.safe m.safe plan
-      → (m.safe ≤ m.safe) × (m.safe ≤ number_of m) × PlanFits m.sizes m.safe m.safe plan
-  up_to_safe plan fits =
+  pub up_to_safe : (kind : TurnKind) (plan : Plan) → PlanFits m.sizes m.safe kind m.safe plan
+      → (m.safe ≤ m.safe) × (m.safe ≤ number_of m) × PlanFits m.sizes m.safe kind m.safe plan
+  up_to_safe kind plan fits =
       let self : m.safe ≤ m.safe = omega arith in
       (self, good.until_now, fits)
 

@@ -280,7 +280,7 @@ install_of_number number = record fresh.core {
 
 an_install_of_a_later_number_is_not : ¬ IsWithinLimits (install_of_number 1)
 an_install_of_a_later_number_is_not within =
-    let same : 1 ≡ 0 = within.turn.2.0 in
+    let same : 1 ≡ 0 = within.turn.2.1 in
     absurd (omega (arith, same))
 
 what_is_safe_is_not_above_the_last_number : ¬ IsWithinLimits (record fresh.core { safe = 1 })

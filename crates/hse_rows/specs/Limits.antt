@@ -1,5 +1,5 @@
 -- What keeps within the limits of a device and of the engine.
-use Rattle.std.specs.Prelude.{◌≡◌, ℕ, ◌+◌, ◌<◌, ◌≤◌, List, length}
+use Rattle.std.specs.Prelude.{◌≡◌, ◌⊎◌, ℕ, ◌+◌, ◌<◌, ◌≤◌, List, length}
 use Rattle.std.specs.List.{filter, AllByRecursion}
 use Rattle.hse_rows.specs.State.{State}
 use Rattle.hse_rows.specs.History.{Event, folded, last_number}
@@ -8,7 +8,7 @@ use Rattle.hse_rows.specs.Sizes.{Sizes}
 use Rattle.hse_rows.specs.Log.{Frozen, LogState, IsWithinLayers, charge_of_commits, charge_of_active, room_of}
 use Rattle.hse_rows.specs.ManifestRoom.{ManifestState, greatest_sequence}
 use Rattle.hse_rows.specs.Job.{Job, AreNumbered}
-use Rattle.hse_rows.specs.Turn.{Plan, settles, enters, removes, installs, Turn, home, taken, ran}
+use Rattle.hse_rows.specs.Turn.{TurnKind, syncing, freezing, creating, dropping, installing, Plan, settles, enters, removes, installs, Turn, home, taken, ran}
 use Rattle.hse_rows.specs.Core.{Core, number_of, most_transactions, most_jobs, most_cursors, greatest_number}
 
 pub record HistoryFits (sizes : Sizes) (base : State) (events : List Event) : Type 0 where
@@ -42,20 +42,21 @@ pub record JobsFit (jobs : List Job) (picked : ℕ) : Type 0 where
   pub live : length jobs ≤ most_jobs
   pub ids : AreNumbered jobs picked
 
--- The manifest after a turn of this number. An install's number is what is safe.
-abbrev pub PlanFits : Sizes → ℕ → ℕ → Plan → Type 0
-PlanFits sizes safe number settles = Unit {0}
-PlanFits sizes safe number (enters manifest) = ManifestFits sizes manifest
-PlanFits sizes safe number (removes id manifest) = ManifestFits sizes manifest
-PlanFits sizes safe number (installs id work new manifest) = (number ≡ safe) × ManifestFits sizes manifest
+-- A turn's kind and number, and the manifest after it. An install's number is what is safe.
+abbrev pub PlanFits : Sizes → ℕ → TurnKind → ℕ → Plan → Type 0
+PlanFits sizes safe kind number settles = (kind ≡ syncing) ⊎ (kind ≡ freezing)
+PlanFits sizes safe kind number (enters manifest) = (kind ≡ creating) × ManifestFits sizes manifest
+PlanFits sizes safe kind number (removes id manifest) = (kind ≡ dropping) × ManifestFits sizes manifest
+PlanFits sizes safe kind number (installs id work new manifest) =
+    (kind ≡ installing) × (number ≡ safe) × ManifestFits sizes manifest
 
 -- A turn's number is between what is safe and the last number.
 abbrev pub TurnFits : Sizes → ℕ → ℕ → Turn → Type 0
 TurnFits sizes safe number home = Unit {0}
 TurnFits sizes safe number (taken turn) =
-    (safe ≤ turn.number) × (turn.number ≤ number) × PlanFits sizes safe turn.number turn.plan
+    (safe ≤ turn.number) × (turn.number ≤ number) × PlanFits sizes safe turn.kind turn.number turn.plan
 TurnFits sizes safe number (ran turn has_failed) =
-    (safe ≤ turn.number) × (turn.number ≤ number) × PlanFits sizes safe turn.number turn.plan
+    (safe ≤ turn.number) × (turn.number ≤ number) × PlanFits sizes safe turn.kind turn.number turn.plan
 
 pub record IsWithinLimits (m : Core) : Type 0 where
   pub history : HistoryFits m.sizes m.timeline.base m.timeline.history
