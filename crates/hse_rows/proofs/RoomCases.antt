@@ -10,14 +10,14 @@ use Rattle.hse_rows.specs.Log.{new_log}
 use Rattle.hse_rows.specs.TakenRuns.{runs_of}
 use Rattle.hse_rows.specs.ManifestRoom.{batch_bytes, base_bytes}
 use Rattle.hse_rows.specs.Replies.{store_exists, broken, too_many, spent, manifest_full, txn_size, log_full, ok, figures}
-use Rattle.hse_rows.specs.Job.{Job, ingesting}
+use Rattle.hse_rows.specs.Job.{keys, Job, ingesting, on_run}
 use Rattle.hse_rows.specs.Job as job
 use Rattle.hse_rows.specs.Turn as turn
 use Rattle.hse_rows.specs.Core.{Core, life, new_manifest}
 use Rattle.hse_rows.specs.Core as core
 use Rattle.hse_rows.specs.Limits.{IsWithinLimits}
 use Rattle.hse_rows.specs.CoreStep.{loads}
-use Rattle.hse_rows.specs.CoreLaws.{LoadsWithinLimits}
+use Rattle.hse_rows.specs.CoreLaws.{LoadsWithinLimits, WorkFits}
 use Rattle.hse_rows.specs.ScriptLines.{Line, get, info}
 use Rattle.hse_rows.specs.Script.{Script, begins_with}
 use Rattle.hse_rows.specs.ScriptRefusal.{refusal}
@@ -282,6 +282,25 @@ an_install_of_a_later_number_is_not : ¬ IsWithinLimits (install_of_number 1)
 an_install_of_a_later_number_is_not within =
     let same : 1 ≡ 0 = within.turn.2.1 in
     absurd (omega (arith, same))
+
+a_run_beyond_its_node_does_not_fit : ¬ WorkFits [] (on_run (record {
+  kind = keys;
+  store = 1;
+  prefix_length = 0;
+  path = [];
+  older = 0;
+  len = 1;
+  last = true;
+})) []
+a_run_beyond_its_node_does_not_fit fits =
+    let over : 1 ≤ 0 = fits.0 in
+    absurd (omega (arith, over))
+
+a_turn_of_another_kind_is_not : ¬ IsWithinLimits (record fresh.core {
+  turn = turn.taken (record { kind = turn.syncing; number = 0; plan = turn.enters fresh.core.manifest; calls = true });
+})
+a_turn_of_another_kind_is_not within =
+    absurd (let no : turn.syncing ≡ turn.creating = within.turn.2.0 in cc)
 
 what_is_safe_is_not_above_the_last_number : ¬ IsWithinLimits (record fresh.core { safe = 1 })
 what_is_safe_is_not_above_the_last_number within =

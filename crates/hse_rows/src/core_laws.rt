@@ -7,6 +7,7 @@ ghost use Rattle.hse_rows.specs.CoreLaws.{AnswersLeadOneWay, RefusalsChangeNothi
 ghost use Rattle.hse_rows.specs.CoreLaws.{CallsAreAnswered, CallsHaveOneAnswer};
 ghost use Rattle.hse_rows.specs.CoreLaws.{StepsKeepLimits, RunsKeepLimits, LivesBeginRecorded};
 ghost use Rattle.hse_rows.specs.CoreLaws.{StepsKeepRecords, RunsAreRecorded};
+ghost use Rattle.hse_rows.specs.CoreLaws.{InstallsCountSlots, DropsCountSlots};
 
 /// Snapshot isolation. In every run no two transactions that each began before the other's commit
 /// both committed overlapping writes, and a commit is never canceled.
@@ -54,6 +55,14 @@ pub fn calls_have_one_answer()
 pub fn calls_keep_limits()
     ensures steps { StepsKeepLimits }
     ensures runs { RunsKeepLimits }
+{}
+
+/// Where the layout's blocks and those that an install writes are among the used slots, the blocks after
+/// the install are among those that stay used, if the job's run is within the sets of its node and takes
+/// over at most its blocks; and so are those after a drop. So what is freed was used.
+pub fn slots_are_counted()
+    ensures installs { InstallsCountSlots }
+    ensures drops { DropsCountSlots }
 {}
 
 /// In every run each commit since the life began stands in the log, with those that the device stored
