@@ -17,7 +17,7 @@ use Rattle.hse_rows.specs.Transaction.{Transaction, is_active}
 use Rattle.hse_rows.specs.Log.{LogState, Frozen, Numbered, charge_of_active, room_of, room_left, logged}
 use Rattle.hse_rows.specs.ManifestRoom.{ManifestState, half_room, fits, cannot_roll, gained, greatest_sequence}
 use Rattle.hse_rows.specs.Sizes.{Sizes}
-use Rattle.hse_rows.specs.Job.{JobWish, ingest, of_run, Work, ingesting, on_run, Job, JobState, job_of, needed_blocks, live_ingest, claimer, first_on, is_picked, is_built}
+use Rattle.hse_rows.specs.Job.{JobWish, ingest, of_run, Work, ingesting, on_run, Job, AreApart, JobState, job_of, needed_blocks, live_ingest, claimer, first_on, is_picked, is_built}
 use Rattle.hse_rows.specs.Job as job_states
 use Rattle.hse_rows.specs.Layout.{NewSet}
 use Rattle.hse_rows.specs.Turn.{Turn, home, taken, ran}
@@ -28,7 +28,7 @@ use Rattle.hse_rows.specs.ManifestEntry.{ManifestEntry, whole_need, has_no_room,
 use Rattle.hse_rows.specs.CoreRefusal.{room_refusal, is_log_busy, entry_refusal}
 use Rattle.hse_rows.specs.CoreDone.{without_job, with_state, frozen_log, without_oldest, oldest_gone, log_after}
 use Rattle.hse_rows.specs.Limits.{HistoryFits, LayerFits, LogFits, ManifestFits, TransactionsFit, JobsFit, TurnFits}
-use Rattle.hse_rows.proofs.JobLemmas.{led_numbered}
+use Rattle.hse_rows.proofs.JobLemmas.{led_numbered, push_apart, filter_apart, led_apart}
 use Rattle.hse_rows.proofs.PassLemmas.{passes}
 
 -- ---- numbers
@@ -243,8 +243,9 @@ one_other begun order old new is still good =
 -- ---- jobs
 
 pub picked_fits : (jobs : List Job) (picked : ℕ) (work : Work) → JobsFit jobs picked → length jobs < 64
+    → AllByRecursion (λ job. AreApart job.work work) jobs
     → JobsFit (jobs ++ record { id = picked; work = work; state = job_states.picked; sets = [] } ∷ []) (picked + 1)
-picked_fits jobs picked work good few =
+picked_fits jobs picked work good few apart =
     let job : Job = record { id = picked; work = work; state = job_states.picked; sets = [] } in
     let more = length-append jobs (job ∷ []) in
     let self : picked ≤ picked = omega arith in
@@ -252,16 +253,17 @@ picked_fits jobs picked work good few =
     record {
       live = omega (arith, few, more);
       ids = rise-push (λ (j : Job). j.id) 0 picked (picked + 1) jobs job good.ids self next;
+      claims = push_apart jobs job good.claims apart;
     }
 
 pub without_fits : (jobs : List Job) (picked id : ℕ) → JobsFit jobs picked → JobsFit (without_job jobs id) picked
 without_fits jobs picked id good =
     let few : length jobs ≤ 64 = good.live in
     let less : length (without_job jobs id) ≤ length jobs = fewer (λ (job : Job). not (job.id == id)) jobs in
-    record { live = omega (arith, few, less); ids = rise-filter (λ (job : Job). job.id) (λ (job : Job). not (job.id == id)) 0 picked jobs good.ids }
+    record { live = omega (arith, few, less); ids = rise-filter (λ (job : Job). job.id) (λ (job : Job). not (job.id == id)) 0 picked jobs good.ids; claims = filter_apart (λ (job : Job). not (job.id == id)) jobs good.claims }
 
 pub led_fits : (jobs : List Job) (picked id : ℕ) (state : JobState) (new : List NewSet) → JobsFit jobs picked → JobsFit (with_state jobs id state new) picked
 led_fits jobs picked id state new good =
     let few : length jobs ≤ 64 = good.live in
     let same_length : length (with_state jobs id state new) ≡ length jobs = length-map jobs _ in
-    record { live = omega (arith, few, same_length); ids = led_numbered 0 picked id state new jobs good.ids }
+    record { live = omega (arith, few, same_length); ids = led_numbered 0 picked id state new jobs good.ids; claims = led_apart id state new jobs good.claims }

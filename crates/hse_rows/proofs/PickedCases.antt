@@ -139,7 +139,7 @@ it_may_be_loaded = record {
     since_base = omega arith;
     until_now = omega arith;
     transactions = record { live = omega arith; begins = omega arith };
-    jobs = record { live = omega arith; ids = omega arith };
+    jobs = record { live = omega arith; ids = omega arith; claims = tt };
     cursors = omega arith;
     turn = tt;
   };

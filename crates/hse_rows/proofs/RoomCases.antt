@@ -1,5 +1,5 @@
 -- Small cases of the machine's limits: stores, numbers and the manifest's room, worked by hand.
-use Rattle.std.proofs.Common.{◌≡◌, ℕ, ◌+◌, ◌-◌, ◌*◌, ◌/◌, ◌%◌, ◌≤◌, List, [], ◌∷◌, length, map, Some, None, true, refl, arith}
+use Rattle.std.proofs.Common.{◌≡◌, ℕ, ◌+◌, ◌-◌, ◌*◌, ◌/◌, ◌%◌, ◌≤◌, List, [], ◌∷◌, length, map, Some, None, true, false, refl, arith}
 use Rattle.std.specs.Prelude.{codes}
 use Rattle.std.specs.List.{range_with_len}
 use Rattle.hse_rows.specs.declared.store.Mode.TheVariants.{Plain, Tx}
@@ -241,7 +241,7 @@ a_new_device_is_within_them = record {
   since_base = omega arith;
   until_now = omega arith;
   transactions = record { live = omega arith; begins = omega arith };
-  jobs = record { live = omega arith; ids = omega arith };
+  jobs = record { live = omega arith; ids = omega arith; claims = tt };
   cursors = omega arith;
   turn = tt;
 }
@@ -270,6 +270,10 @@ two_jobs_of_one_id_are_not : ¬ IsWithinLimits (record fresh.core { jobs = picke
 two_jobs_of_one_id_are_not within =
     let rises : 1 ≤ 0 = within.jobs.ids.1.0 in
     absurd (omega (arith, rises))
+
+two_ingests_are_not : ¬ IsWithinLimits (record fresh.core { jobs = picked_job ∷ record picked_job { id = 1 } ∷ []; picked = 2 })
+two_ingests_are_not within =
+    absurd (let no : true ≡ false = within.jobs.claims.0.0 in cc)
 
 -- an install's number is what is safe
 abbrev install_of_number : ℕ → Core

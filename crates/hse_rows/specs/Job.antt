@@ -1,6 +1,6 @@
 -- Jobs: what each is about, what it makes of the sets of a tree, and how far it is.
-use Rattle.std.specs.Prelude.{ℕ, ◌+◌, ◌-◌, ◌==◌, Bool, true, false, ◌&&◌, if◌then◌else◌, List, [], map, sum_by, Option}
-use Rattle.std.specs.List.{find}
+use Rattle.std.specs.Prelude.{◌≡◌, ℕ, ◌+◌, ◌-◌, ◌==◌, Bool, true, false, ◌&&◌, if◌then◌else◌, List, [], ◌∷◌, map, sum_by, Option}
+use Rattle.std.specs.List.{AllByRecursion, find}
 use Rattle.hse_rows.specs.NormalForm.{same}
 use Rattle.hse_rows.specs.Rising.{Rise}
 use Rattle.hse_rows.specs.State.{Store}
@@ -100,6 +100,16 @@ claims store path (on_run run) = (run.store == store) && same run.path path
 -- the job whose run is of this node
 abbrev pub claimer : List Job → ℕ → List ℕ → Option Job
 claimer jobs store path = find (λ job. claims store path job.work) jobs
+
+-- Of a job and one picked later at most one is an ingest, and they are on different nodes.
+abbrev pub AreApart : Work → Work → Type 0
+AreApart earlier ingesting = is_ingest earlier ≡ false
+AreApart earlier (on_run run) = claims run.store run.path earlier ≡ false
+
+-- and so are any two of these
+abbrev pub ClaimApart : List Job → Type 0
+ClaimApart [] = Unit {0}
+ClaimApart (job ∷ jobs) = AllByRecursion (λ later. AreApart job.work later.work) jobs × ClaimApart jobs
 
 abbrev pub is_on_store : ℕ → Work → Bool
 is_on_store store ingesting = false

@@ -7,7 +7,7 @@ use Rattle.hse_rows.specs.Transaction.{Transaction, is_active}
 use Rattle.hse_rows.specs.Sizes.{Sizes}
 use Rattle.hse_rows.specs.Log.{Frozen, LogState, IsWithinLayers, charge_of_commits, charge_of_active, room_of}
 use Rattle.hse_rows.specs.ManifestRoom.{ManifestState, greatest_sequence}
-use Rattle.hse_rows.specs.Job.{Job, AreNumbered}
+use Rattle.hse_rows.specs.Job.{Job, AreNumbered, ClaimApart}
 use Rattle.hse_rows.specs.Turn.{TurnKind, syncing, freezing, creating, dropping, installing, Plan, settles, enters, removes, installs, Turn, home, taken, ran}
 use Rattle.hse_rows.specs.Core.{Core, number_of, most_transactions, most_jobs, most_cursors, greatest_number}
 
@@ -41,6 +41,7 @@ pub record TransactionsFit (begun : List Transaction) : Type 0 where
 pub record JobsFit (jobs : List Job) (picked : ℕ) : Type 0 where
   pub live : length jobs ≤ most_jobs
   pub ids : AreNumbered jobs picked
+  pub claims : ClaimApart jobs
 
 -- A turn's kind and number, and the manifest after it. An install's number is what is safe.
 abbrev pub PlanFits : Sizes → ℕ → TurnKind → ℕ → Plan → Type 0

@@ -49,7 +49,8 @@ pub fn calls_have_one_answer()
 /// have room in their segment, at most three layers are frozen, each with a commit and within its
 /// segment, the manifest's batches have room in their half, no more slots are used than there are,
 /// numbers, sequences and counts of stores, live transactions, begins, jobs and cursors are within
-/// their limits, the jobs' ids differ and are less than the count of picks, what is safe is between the
+/// their limits, the jobs' ids differ and are less than the count of picks, no two live jobs are ingests
+/// or on one node, what is safe is between the
 /// base and the last number, and so is a turn's number, which is what is safe for an install. A turn's
 /// kind is that of its plan.
 pub fn calls_keep_limits()
