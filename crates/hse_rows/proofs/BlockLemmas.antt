@@ -180,7 +180,7 @@ run_blocks layout run spill sets fits =
     omega (arith, counted, spilled)
 
 pub install_counts : (layout : Layout) (work : Work) (sets : List NewSet) (used : ℕ) → WorkFits layout work sets
-    → blocks_in layout + needed_blocks work sets ≤ used → blocks_in (installed layout work sets) ≤ used - freed_blocks layout work sets
+    → blocks_in layout + needed_blocks work sets ≤ used → blocks_in (installed layout work sets) + freed_blocks layout work sets ≤ used
 install_counts layout ingesting sets used fits room =
     let counted = in_fronts_blocks layout sets in
     omega (arith, counted, room)
@@ -191,7 +191,7 @@ install_counts layout (on_run run) sets used fits room =
     omega (arith, counted, both, least, room)
 
 pub drop_counts : (layout : Layout) (id used : ℕ) → blocks_in layout ≤ used
-    → blocks_in (layout_but layout id) ≤ used - (blocks_in layout - blocks_in (layout_but layout id))
+    → blocks_in (layout_but layout id) + (blocks_in layout - blocks_in (layout_but layout id)) ≤ used
 drop_counts layout id used room =
     let fewer : blocks_in (layout_but layout id) ≤ blocks_in layout = fewer_blocks (λ node. not (node.store == id)) layout in
     omega (arith, fewer, room)

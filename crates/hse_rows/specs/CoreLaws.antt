@@ -197,18 +197,18 @@ WorkFits layout (on_run run) sets =
     (run.older + run.len ≤ length (sets_at layout run.store run.path))
     × (taken_over_blocks (on_run run) sets ≤ sum_by blocks_of (sets_of_run layout run))
 
--- Where the blocks of the layout and those that an install writes are among the used slots, those after it are too.
+-- Where the blocks of the layout and those that an install writes are used slots, those after it are, beside those it frees.
 abbrev pub InstallsCountSlots : Type 0
 InstallsCountSlots =
     (layout : Layout) (work : Work) (sets : List NewSet) (used : ℕ)
     → WorkFits layout work sets → blocks_in layout + needed_blocks work sets ≤ used
-    → blocks_in (installed layout work sets) ≤ used - freed_blocks layout work sets
+    → blocks_in (installed layout work sets) + freed_blocks layout work sets ≤ used
 
 -- And so where the sets of a store leave.
 abbrev pub DropsCountSlots : Type 0
 DropsCountSlots =
     (layout : Layout) (id used : ℕ) → blocks_in layout ≤ used
-    → blocks_in (layout_but layout id) ≤ used - (blocks_in layout - blocks_in (layout_but layout id))
+    → blocks_in (layout_but layout id) + (blocks_in layout - blocks_in (layout_but layout id)) ≤ used
 
 -- ---- what log and manifest keep
 

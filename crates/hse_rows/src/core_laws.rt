@@ -58,9 +58,9 @@ pub fn calls_keep_limits()
     ensures runs { RunsKeepLimits }
 {}
 
-/// Where the layout's blocks and those that an install writes are among the used slots, the blocks after
-/// the install are among those that stay used, if the job's run is within the sets of its node and takes
-/// over at most its blocks; and so are those after a drop. So what is freed was used.
+/// Where the layout's blocks and those that an install writes are used slots, the blocks after the
+/// install and those that it frees are no more than these, if the job's run is within the sets of its
+/// node and takes over at most its blocks; and likewise after a drop. So what is freed was used.
 pub fn slots_are_counted()
     ensures installs { InstallsCountSlots }
     ensures drops { DropsCountSlots }
