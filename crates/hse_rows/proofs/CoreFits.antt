@@ -1,4 +1,5 @@
 -- A core within the limits with one part changed.
+use Rattle.std.specs.List.{AllByRecursion}
 use Rattle.std.proofs.Common.{◌≡◌, ℕ, ◌+◌, ◌-◌, ◌<◌, ◌≤◌, nat_lt, nat_le, Bool, false, List, [], ◌∷◌, ◌++◌, length, Option, Some, None, refl, sym, subst, arith}
 use Rattle.hse_rows.specs.declared.change.Change.{Change}
 use Rattle.hse_rows.specs.declared.write.Write.{Write}
@@ -11,9 +12,9 @@ use Rattle.hse_rows.specs.Moves as move
 use Rattle.hse_rows.specs.Timeline.{Timeline, transaction_of, for_some, committing, moved}
 use Rattle.hse_rows.specs.Log.{LogState, logged}
 use Rattle.hse_rows.specs.ManifestRoom.{fits}
-use Rattle.hse_rows.specs.Job.{JobWish, ingest, of_run, Work, ingesting, on_run, Job, JobState, job_of, needed_blocks, live_ingest, claimer, first_on, is_picked, is_built}
+use Rattle.hse_rows.specs.Job.{JobWish, ingest, of_run, Work, ingesting, on_run, Job, AreApart, JobState, is_ingest, claims, job_of, needed_blocks, live_ingest, claimer, first_on, is_picked, is_built}
 use Rattle.hse_rows.specs.Job as job_states
-use Rattle.hse_rows.specs.Turn.{Plan, Turn}
+use Rattle.hse_rows.specs.Turn.{TurnKind, Plan, Turn}
 use Rattle.hse_rows.specs.Replies as replies
 use Rattle.hse_rows.specs.Replies.{Refusal, Answer}
 use Rattle.hse_rows.specs.Calls.{begin, take_place, give_place}
@@ -22,7 +23,8 @@ use Rattle.hse_rows.specs.ManifestEntry.{entered, install_entry}
 use Rattle.hse_rows.specs.CoreRefusal.{refusal, is_tx, is_spent, room_refusal, outside_refusal, commit_refusal, pick_refusal, install_refusal}
 use Rattle.hse_rows.specs.CoreDone.{done, without_job, with_picked, picking, building, log_with, committing_write, with_installing, run_of}
 use Rattle.hse_rows.specs.Limits.{HistoryFits, LogFits, ManifestFits, TransactionsFit, JobsFit, PlanFits, TurnFits, IsWithinLimits}
-use Rattle.hse_rows.proofs.PassLemmas.{passes, change_passes, size_passes, not_busy, found}
+use Rattle.hse_rows.proofs.PassLemmas.{passes, change_passes, size_passes, not_busy, not_busy_with, found}
+use Rattle.hse_rows.proofs.JobLemmas.{none_found}
 use Rattle.hse_rows.proofs.FitLemmas.{at_most, below, commit_fits, entered_fits, later_turn, led_fits, logged_fits, one_begins, one_other, or_parts, picked_fits, pushed_number, without_fits}
 
 -- ---- a core with another history and another log
@@ -140,8 +142,10 @@ module _ (m : Core) (good : IsWithinLimits m) where
     turn = good.turn;
   }
 
-  pub picked_within : (work : Work) → nat_le 64 (length m.jobs) ≡ false → IsWithinLimits (with_picked m work)
-  picked_within work room = with_jobs (with_picked m work).jobs (m.picked + 1) (picked_fits m.jobs m.picked work good.jobs (below 64 (length m.jobs) room))
+  pub picked_within : (work : Work) → nat_le 64 (length m.jobs) ≡ false → AllByRecursion (λ job. AreApart job.work work) m.jobs
+      → IsWithinLimits (with_picked m work)
+  picked_within work room apart =
+      with_jobs (with_picked m work).jobs (m.picked + 1) (picked_fits m.jobs m.picked work good.jobs (below 64 (length m.jobs) room) apart)
 
   pub without_within : (id : ℕ) → IsWithinLimits (record m { jobs = without_job m.jobs id })
   without_within id = with_jobs (without_job m.jobs id) m.picked (without_fits m.jobs m.picked id good.jobs)
@@ -152,13 +156,18 @@ module _ (m : Core) (good : IsWithinLimits m) where
   pub picking_within : (wish : JobWish) → pick_refusal m wish ≡ None → IsWithinLimits (picking m wish)
   picking_within ingest none =
       let first = passes m.is_broken replies.broken _ none in
-      picked_within ingesting (passes (nat_le most_jobs (length m.jobs)) (replies.too_many most_jobs) _ first.1).0
+      let second = passes (nat_le most_jobs (length m.jobs)) (replies.too_many most_jobs) _ first.1 in
+      let third = not_busy_with (live_ingest m.jobs) _ second.1 in
+      picked_within ingesting second.0 (none_found (λ job. is_ingest job.work) m.jobs third.0)
   picking_within (of_run kind name path from len) none =
       found IsWithinLimits (store_named (now m) name) replies.no_store _ m
       (λ store. with_picked m (on_run (run_of m kind store path from len)))
       (λ store is none.
       let first = passes m.is_broken replies.broken _ none in
-      picked_within (on_run (run_of m kind store path from len)) (passes (nat_le most_jobs (length m.jobs)) (replies.too_many most_jobs) _ first.1).0) none
+      let second = passes (nat_le most_jobs (length m.jobs)) (replies.too_many most_jobs) _ first.1 in
+      let third = not_busy_with (claimer m.jobs store.id path) _ second.1 in
+      picked_within (on_run (run_of m kind store path from len)) second.0
+      (none_found (λ job. claims store.id path job.work) m.jobs third.0)) none
 
   -- ---- cursors
 
@@ -203,14 +212,16 @@ module _ (m : Core) (good : IsWithinLimits m) where
   }
 
   -- a turn up to the last number
-  pub up_to_now : (plan : Plan) → PlanFits m.sizes plan → (m.safe ≤ number_of m) × (number_of m ≤ number_of m) × PlanFits m.sizes plan
-  up_to_now plan fits =
+  pub up_to_now : (kind : TurnKind) (plan : Plan) → PlanFits m.sizes m.safe kind (number_of m) plan
+      → (m.safe ≤ number_of m) × (number_of m ≤ number_of m) × PlanFits m.sizes m.safe kind (number_of m) plan
+  up_to_now kind plan fits =
       let self : number_of m ≤ number_of m = omega arith in
       (good.until_now, self, fits)
 
   -- a turn up to what is safe
-  pub up_to_safe : (plan : Plan) → PlanFits m.sizes plan → (m.safe ≤ m.safe) × (m.safe ≤ number_of m) × PlanFits m.sizes plan
-  up_to_safe plan fits =
+  pub up_to_safe : (kind : TurnKind) (plan : Plan) → PlanFits m.sizes m.safe kind m.safe plan
+      → (m.safe ≤ m.safe) × (m.safe ≤ number_of m) × PlanFits m.sizes m.safe kind m.safe plan
+  up_to_safe kind plan fits =
       let self : m.safe ≤ m.safe = omega arith in
       (self, good.until_now, fits)
 

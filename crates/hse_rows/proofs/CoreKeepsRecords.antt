@@ -10,11 +10,11 @@ use Rattle.hse_rows.specs.CoreRefusal.{refusal}
 use Rattle.hse_rows.specs.CoreDone.{done, refused_to, failing}
 use Rattle.hse_rows.specs.CoreStep.{Found, loads, breaks_off, has_version, Reopens, Step}
 use Rattle.hse_rows.specs.CoreLaws.{Entry, Run, stored_by, stored_in, LoadsInOrder}
-use Rattle.hse_rows.specs.Recorded.{above, AreLayers, CommitsUpTo, commits_of, IsRecorded, IsInOrder}
+use Rattle.hse_rows.specs.Recorded.{above, AreLayers, CommitsBetween, last_frozen, commits_of, IsRecorded, IsInOrder}
 use Rattle.hse_rows.proofs.CoreAnswers.{IsOther}
 use Rattle.hse_rows.proofs.CoreGoes.{refused_keeps, failing_keeps}
 use Rattle.hse_rows.proofs.StandLemmas.{done_base}
-use Rattle.hse_rows.proofs.CoreRecords.{none_added, InLog, done_recorded, refused_recorded}
+use Rattle.hse_rows.proofs.CoreRecords.{none_added, recorded, InLog, done_recorded, refused_recorded}
 use Rattle.hse_rows.proofs.ManifestRecords.{all_above, InManifest, done_kept, refused_kept, failing_kept}
 
 -- ---- both halves
@@ -55,13 +55,10 @@ none_since number = omega arith
 pub life_recorded : (stored : Stored) → IsInOrder stored → IsRecorded stored (life stored)
 life_recorded stored good = record {
   base = refl;
-  log = record {
-    gone = [];
-    all = sym (none_added (commits_of stored.log));
-    below = tt;
-    layers = subst (λ (n : ℕ). AreLayers stored.log.horizon n stored.log.frozen) (none_since stored.base.number) good.layers;
-    active = subst (λ (n : ℕ). CommitsUpTo n stored.log.active) (none_since stored.base.number) good.active;
-  };
+  log =
+      recorded (commits_of stored.log) stored.log stored.base [] [] (sym (none_added (commits_of stored.log))) tt
+      (subst (λ (n : ℕ). AreLayers stored.log.horizon n stored.log.frozen) (none_since stored.base.number) good.layers)
+      (subst (λ (n : ℕ). CommitsBetween (last_frozen stored.log.horizon stored.log.frozen) n stored.log.active) (none_since stored.base.number) good.active);
   manifest = λ whole.
       none_added stored.manifest.taken
       ∙ sym (ap (above stored.log.horizon) (none_added stored.manifest.taken) ∙ all_above stored.log.horizon stored.manifest.taken good.taken);

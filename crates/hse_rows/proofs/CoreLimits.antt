@@ -1,13 +1,13 @@
 -- Calls that nothing refuses keep within the limits.
 use Rattle.std.specs.List.{AllByRecursion}
-use Rattle.std.proofs.Common.{◌≡◌, ℕ, ◌≤◌, nat_lt, nat_le, Bool, true, false, List, [], ◌∷◌, length, None, is_some, refl, sym, subst, arith}
+use Rattle.std.proofs.Common.{◌≡◌, inl, inr, ℕ, ◌≤◌, nat_lt, nat_le, Bool, true, false, List, [], ◌∷◌, length, None, is_some, refl, sym, subst, arith}
 use Rattle.hse_rows.specs.State.{store_named}
 use Rattle.hse_rows.specs.History.{creates, drops}
 use Rattle.hse_rows.specs.Moves as move
 use Rattle.hse_rows.specs.Timeline.{snapshot_of, committing, moved}
 use Rattle.hse_rows.specs.ManifestRoom.{ManifestState, fits}
 use Rattle.hse_rows.specs.Job.{live_ingest, first_on, is_picked, is_built}
-use Rattle.hse_rows.specs.Turn.{TurnWish, sync, freeze, create, drop, Plan, settles, enters, removes, installs, TakenTurn, Turn, home, taken, ran}
+use Rattle.hse_rows.specs.Turn.{TurnKind, TurnWish, sync, freeze, create, drop, Plan, settles, enters, removes, installs, TakenTurn, Turn, home, taken, ran}
 use Rattle.hse_rows.specs.Turn as turns
 use Rattle.hse_rows.specs.Replies as replies
 use Rattle.hse_rows.specs.Replies.{Refusal, Answer}
@@ -25,7 +25,7 @@ use Rattle.hse_rows.proofs.CoreFits.{abort_within, at_transaction, begin_within,
 
 module _ (m : Core) (good : IsWithinLimits m) where
   taking_within : (wish : TurnWish) → take_refusal m wish ≡ None → IsWithinLimits (taking m wish)
-  taking_within sync none = with_turn_within m good _ m.is_broken (up_to_now m good settles tt)
+  taking_within sync none = with_turn_within m good _ m.is_broken (up_to_now m good turns.syncing settles (inl refl))
   taking_within freeze none =
       let first = passes m.is_broken replies.broken _ none in
       let second = not_busy m.turn _ first.1 in
@@ -33,7 +33,7 @@ module _ (m : Core) (good : IsWithinLimits m) where
       let there : IsWithinLimits (record m { log = frozen_log m.log (number_of m) }) =
       with_log m good (frozen_log m.log (number_of m)) (frozen_fits m.sizes m.log (number_of m) good.log free.0) in
       with_turn_within (record m { log = frozen_log m.log (number_of m) }) there _ m.is_broken
-      (up_to_now (record m { log = frozen_log m.log (number_of m) }) there settles tt)
+      (up_to_now (record m { log = frozen_log m.log (number_of m) }) there turns.freezing settles (inr refl))
   taking_within (create name mode prefix) none =
       let first = passes (is_some (store_named (now m) name)) replies.store_exists _ none in
       let second = passes (nat_lt longest_prefix prefix) (replies.prefix_length prefix) _ first.1 in
@@ -46,7 +46,7 @@ module _ (m : Core) (good : IsWithinLimits m) where
       (creation_fits m.sizes m.timeline.base m.timeline.history good.history name mode prefix fifth.0 fourth.0) good.log good.transactions in
       let entry : ManifestEntry = creation_entry m name mode prefix in
       with_turn_within (with_move m (move.create name mode prefix)) there _ m.is_broken
-      (up_to_now (with_move m (move.create name mode prefix)) there (enters (entered m entry)) (entered_fits m entry good.manifest sixth.1))
+      (up_to_now (with_move m (move.create name mode prefix)) there turns.creating (enters (entered m entry)) (refl, entered_fits m entry good.manifest sixth.1))
   taking_within (drop name) none =
       found IsWithinLimits (store_named (now m) name) replies.no_store (drop_refusal m) m _
       (λ store is passed.
@@ -61,15 +61,15 @@ module _ (m : Core) (good : IsWithinLimits m) where
       (drop_fits m.sizes m.timeline.base m.timeline.history good.history store.id fifth.0) good.log good.transactions in
       let entry : ManifestEntry = drop_entry m store in
       with_turn_within (with_move m (move.remove store.id)) there _ m.is_broken
-      (up_to_now (with_move m (move.remove store.id)) there (removes store.id (entered m entry)) (entered_fits m entry good.manifest sixth.1))) none
+      (up_to_now (with_move m (move.remove store.id)) there turns.dropping (removes store.id (entered m entry)) (refl, entered_fits m entry good.manifest sixth.1))) none
 
   install_within : (id : ℕ) → refusal m (take_install id) ≡ None → IsWithinLimits (taking_install m id)
   install_within id none =
       found_job IsWithinLimits m id is_built (install_refusal m) _
       (λ job is passed.
       with_turn_within (with_installing m job) (installing_within m good job passed) _ m.is_broken
-      (up_to_safe (with_installing m job) (installing_within m good job passed)
-      (installs id job.work job.sets (entered m (install_entry m job.work job.sets))) (install_entry_fits m good job passed))) none
+      (up_to_safe (with_installing m job) (installing_within m good job passed) turns.installing
+      (installs id job.work job.sets (entered m (install_entry m job.work job.sets))) (refl, refl, install_entry_fits m good job passed))) none
 
   written_within : (has_failed is_broken : Bool) (turn : Turn) → m.turn ≡ turn → IsWithinLimits (record m { turn = turns.written turn has_failed; is_broken = is_broken })
   written_within has_failed is_broken turn is =
@@ -99,12 +99,12 @@ module _ (m : Core) (good : IsWithinLimits m) where
         turn = tt;
       }
 
-  planned_within : (number : ℕ) (plan : Plan) → (m.safe ≤ number) × (number ≤ number_of m) × PlanFits m.sizes plan
+  planned_within : (kind : TurnKind) (number : ℕ) (plan : Plan) → (m.safe ≤ number) × (number ≤ number_of m) × PlanFits m.sizes m.safe kind number plan
       → IsWithinLimits (record (planned m number plan) { turn = home })
-  planned_within number settles fits = safer number m.manifest fits.0 fits.1 good.manifest
-  planned_within number (enters manifest) fits = safer number manifest fits.0 fits.1 fits.2
-  planned_within number (removes id manifest) fits =
-      let there = safer number manifest fits.0 fits.1 fits.2 in
+  planned_within kind number settles fits = safer number m.manifest fits.0 fits.1 good.manifest
+  planned_within kind number (enters manifest) fits = safer number manifest fits.0 fits.1 fits.2.1
+  planned_within kind number (removes id manifest) fits =
+      let there = safer number manifest fits.0 fits.1 fits.2.1 in
       let used : m.used_slots ≤ m.sizes.slots = good.slots in
       record {
         history = there.history;
@@ -118,12 +118,12 @@ module _ (m : Core) (good : IsWithinLimits m) where
         cursors = there.cursors;
         turn = tt;
       }
-  planned_within number (installs id work new manifest) fits =
+  planned_within kind number (installs id work new manifest) fits =
       let used : m.used_slots ≤ m.sizes.slots = good.slots in
       record {
         history = good.history;
         log = log_after_fits m.sizes m.log work good.log;
-        manifest = fits.2;
+        manifest = fits.2.2;
         slots = omega (arith, used);
         since_base = good.since_base;
         until_now = good.until_now;
@@ -137,7 +137,7 @@ module _ (m : Core) (good : IsWithinLimits m) where
   ending_within home is = good
   ending_within (taken turn) is = good
   ending_within (ran turn has_failed) is =
-      planned_within turn.number turn.plan (subst (TurnFits m.sizes m.safe (number_of m)) is good.turn)
+      planned_within turn.kind turn.number turn.plan (subst (TurnFits m.sizes m.safe (number_of m)) is good.turn)
 
   given_up_within : (plan : Plan) → IsWithinLimits (record (given_up m plan) { turn = home })
   given_up_within settles = with_turn_within m good home m.is_broken tt

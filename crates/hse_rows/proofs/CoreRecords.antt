@@ -1,7 +1,9 @@
 -- The log keeps the commits.
-use Rattle.std.proofs.Common.{◌≡◌, ℕ, ◌+◌, ◌≤◌, ◌==◌, true, false, cond, List, [], ◌∷◌, ◌++◌, length, Option, Some, None, refl, sym, ◌∙◌, ap, subst, arith, append_assoc, length-append}
+use Rattle.std.specs.List.{AllByRecursion}
+use Rattle.std.proofs.Common.{◌≡◌, ℕ, ◌+◌, ◌<◌, ◌≤◌, ◌==◌, true, false, cond, List, [], ◌∷◌, ◌++◌, length, Option, Some, None, refl, sym, ◌∙◌, ap, subst, arith, append_assoc, length-append}
 use Rattle.hse_rows.specs.declared.write.Write.{Write}
 use Rattle.hse_rows.specs.NormalForm.{normal_form}
+use Rattle.hse_rows.specs.Rising.{rise-below, rise-from, rise-further, rise-push}
 use Rattle.hse_rows.specs.State.{State, store_named}
 use Rattle.hse_rows.specs.History.{Event, commits, creates, drops, last_number}
 use Rattle.hse_rows.specs.Transaction.{Transaction}
@@ -13,7 +15,7 @@ use Rattle.hse_rows.specs.Turn.{TurnWish, sync, freeze, create, drop, Plan, sett
 use Rattle.hse_rows.specs.Calls.{outside, inside, Call, begin, write_by, get, commit, abort, list_stores, tree, info, take_place, give_place, pick, build, drop_job, next_job, take, take_install, write_turn, end_turn, reopen}
 use Rattle.hse_rows.specs.Core.{Core, now, number_of, oldest, write_to, with_move}
 use Rattle.hse_rows.specs.CoreDone.{done, refused_to, log_with, frozen_log, taking, without_oldest, oldest_gone, log_after, picking, building, planned, ending, ending_failed, given_up}
-use Rattle.hse_rows.specs.Recorded.{commits_in, CommitsUpTo, AreLayers, frozen_commits, commits_of, Records}
+use Rattle.hse_rows.specs.Recorded.{commits_in, CommitsUpTo, CommitsBetween, last_frozen, AreLayers, frozen_commits, commits_of, Records}
 use Rattle.hse_rows.proofs.RecordLemmas.{commits_push}
 
 pub none_added : {A : Type 0} (xs : List A) → xs ++ [] ≡ xs
@@ -42,6 +44,74 @@ higher_layers horizon low high (layer ∷ layers) more are =
     let there : layer.last ≤ high = omega (arith, below, more) in
     (there, are.1, are.2)
 
+-- ---- numbers above
+
+abbrev AreAbove : ℕ → List Numbered → Type 0
+AreAbove number these = AllByRecursion (λ commit. number < commit.number) these
+
+between_up_to : (low high : ℕ) (these : List Numbered) → CommitsBetween low high these → CommitsUpTo high these
+between_up_to low high these between = up_to these (rise-below (λ (commit : Numbered). commit.number) (low + 1) (high + 1) these between)
+  where
+    up_to : (ones : List Numbered) → AllByRecursion (λ commit. commit.number < high + 1) ones → CommitsUpTo high ones
+    up_to [] are = tt
+    up_to (one ∷ ones) are =
+        let here : one.number < high + 1 = are.0 in
+        let there : one.number ≤ high = omega (arith, here) in
+        (there, up_to ones are.1)
+
+between_above : (lower low high : ℕ) (these : List Numbered) → lower ≤ low → CommitsBetween low high these → AreAbove lower these
+between_above lower low high these less between = above these (rise-from (λ (commit : Numbered). commit.number) (low + 1) (high + 1) these between)
+  where
+    above : (ones : List Numbered) → AllByRecursion (λ commit. low + 1 ≤ commit.number) ones → AreAbove lower ones
+    above [] are = tt
+    above (one ∷ ones) are =
+        let here : low + 1 ≤ one.number = are.0 in
+        let there : lower < one.number = omega (arith, here, less) in
+        (there, above ones are.1)
+
+between_further : (low high higher : ℕ) (these : List Numbered) → high ≤ higher → CommitsBetween low high these → CommitsBetween low higher these
+between_further low high higher these more between =
+    let next : high + 1 ≤ higher + 1 = omega (arith, more) in
+    rise-further (λ (commit : Numbered). commit.number) (low + 1) (high + 1) (higher + 1) these next between
+
+joined_above : (number : ℕ) (ones others : List Numbered) → AreAbove number ones → AreAbove number others → AreAbove number (ones ++ others)
+joined_above number [] others first second = second
+joined_above number (one ∷ ones) others first second = (first.0, joined_above number ones others first.1 second)
+
+-- the horizon is not above the last number
+pub horizon_below : (horizon last : ℕ) (layers : List Frozen) → AreLayers horizon last layers → horizon ≤ last
+horizon_below horizon last [] are = are
+horizon_below horizon last (layer ∷ layers) are =
+    let rest : horizon ≤ layer.last = horizon_below horizon layer.last layers are.2 in
+    let here : layer.last ≤ last = are.0 in
+    omega (arith, rest, here)
+
+horizon_below_frozen : (horizon last : ℕ) (layers : List Frozen) → AreLayers horizon last layers → horizon ≤ last_frozen horizon layers
+horizon_below_frozen horizon last [] are = omega arith
+horizon_below_frozen horizon last (layer ∷ layers) are = horizon_below horizon layer.last layers are.2
+
+frozen_above : (horizon last : ℕ) (layers : List Frozen) → AreLayers horizon last layers → AreAbove horizon (frozen_commits layers)
+frozen_above horizon last [] are = tt
+frozen_above horizon last (layer ∷ layers) are =
+    joined_above horizon (frozen_commits layers) layer.commits (frozen_above horizon layer.last layers are.2)
+    (between_above horizon (last_frozen horizon layers) layer.last layer.commits (horizon_below_frozen horizon layer.last layers are.2) are.1)
+
+pub recorded : (before : List Numbered) (log : LogState) (base : State) (events : List Event) (gone : List Numbered)
+    → gone ++ commits_of log ≡ before ++ commits_in (base.number + 1) events → CommitsUpTo log.horizon gone
+    → AreLayers log.horizon (last_number base events) log.frozen
+    → CommitsBetween (last_frozen log.horizon log.frozen) (last_number base events) log.active → Records before log base events
+recorded before log base events gone all below layers active = record {
+  gone = gone;
+  all = all;
+  below = below;
+  above =
+      joined_above log.horizon (frozen_commits log.frozen) log.active (frozen_above log.horizon (last_number base events) log.frozen layers)
+      (between_above log.horizon (last_frozen log.horizon log.frozen) (last_number base events) log.active
+      (horizon_below_frozen log.horizon (last_number base events) log.frozen layers) active);
+  layers = layers;
+  active = active;
+}
+
 -- ---- one event more
 
 module _ (before : List Numbered) (log : LogState) (base : State) (events : List Event) (good : Records before log base events) where
@@ -53,38 +123,32 @@ module _ (before : List Numbered) (log : LogState) (base : State) (events : List
       let one : Numbered = record { number = last_number base events + 1; writes = writes } in
       let next = next_number (commits writes) in
       let more : last_number base events ≤ last_number base (events ++ commits writes ∷ []) = omega (arith, next) in
-      let its : last_number base events + 1 ≤ last_number base (events ++ commits writes ∷ []) = omega (arith, next) in
+      let its : last_number base events + 1 ≤ last_number base events + 1 = omega arith in
+      let less : last_number base events + 1 < last_number base (events ++ commits writes ∷ []) + 1 = omega (arith, next) in
       let place : base.number + 1 + length events ≡ last_number base events + 1 = omega arith in
-      record {
-        gone = good.gone;
-        all =
-            ap (λ (l : List Numbered). good.gone ++ l) (sym (append_assoc (frozen_commits log.frozen) log.active (one ∷ [])))
-            ∙ sym (append_assoc good.gone (commits_of log) (one ∷ []))
-            ∙ ap (λ (l : List Numbered). l ++ one ∷ []) good.all
-            ∙ append_assoc before (commits_in (base.number + 1) events) (one ∷ [])
-            ∙ ap (λ (n : ℕ). before ++ (commits_in (base.number + 1) events ++ record { number = n; writes = writes } ∷ [])) (sym place)
-            ∙ ap (λ (l : List Numbered). before ++ l) (sym (commits_push (base.number + 1) events (commits writes)));
-        below = good.below;
-        layers = higher_layers log.horizon _ _ log.frozen more good.layers;
-        active = joined _ log.active (one ∷ []) (further _ _ log.active more good.active) (its, tt);
-      }
+      recorded before (logged log (last_number base events + 1) writes) base (events ++ commits writes ∷ []) good.gone
+      (ap (λ (l : List Numbered). good.gone ++ l) (sym (append_assoc (frozen_commits log.frozen) log.active (one ∷ [])))
+      ∙ sym (append_assoc good.gone (commits_of log) (one ∷ []))
+      ∙ ap (λ (l : List Numbered). l ++ one ∷ []) good.all
+      ∙ append_assoc before (commits_in (base.number + 1) events) (one ∷ [])
+      ∙ ap (λ (n : ℕ). before ++ (commits_in (base.number + 1) events ++ record { number = n; writes = writes } ∷ [])) (sym place)
+      ∙ ap (λ (l : List Numbered). before ++ l) (sym (commits_push (base.number + 1) events (commits writes))))
+      good.below (higher_layers log.horizon _ _ log.frozen more good.layers)
+      (rise-push (λ (commit : Numbered). commit.number) (last_frozen log.horizon log.frozen + 1) (last_number base events + 1)
+      (last_number base (events ++ commits writes ∷ []) + 1) log.active one good.active its less)
 
   other_recorded : (event : Event) → commits_in (base.number + 1 + length events) (event ∷ []) ≡ [] → Records before log base (events ++ event ∷ [])
   other_recorded event none =
       let next = next_number event in
       let more : last_number base events ≤ last_number base (events ++ event ∷ []) = omega (arith, next) in
-      record {
-        gone = good.gone;
-        all =
-            good.all
-            ∙ ap (λ (l : List Numbered). before ++ l)
-            (sym (none_added (commits_in (base.number + 1) events))
-            ∙ ap (λ (l : List Numbered). commits_in (base.number + 1) events ++ l) (sym none)
-            ∙ sym (commits_push (base.number + 1) events event));
-        below = good.below;
-        layers = higher_layers log.horizon _ _ log.frozen more good.layers;
-        active = further _ _ log.active more good.active;
-      }
+      recorded before log base (events ++ event ∷ []) good.gone
+      (good.all
+      ∙ ap (λ (l : List Numbered). before ++ l)
+      (sym (none_added (commits_in (base.number + 1) events))
+      ∙ ap (λ (l : List Numbered). commits_in (base.number + 1) events ++ l) (sym none)
+      ∙ sym (commits_push (base.number + 1) events event)))
+      good.below (higher_layers log.horizon _ _ log.frozen more good.layers)
+      (between_further (last_frozen log.horizon log.frozen) _ _ log.active more good.active)
 
   frozen_recorded : Records before (frozen_log log (last_number base events)) base events
   frozen_recorded =
@@ -94,13 +158,10 @@ module _ (before : List Numbered) (log : LogState) (base : State) (events : List
         | true ↦ good
         | false ↦
             let self : last_number base events ≤ last_number base events = omega arith in
-            record {
-              gone = good.gone;
-              all = ap (λ (l : List Numbered). good.gone ++ l) (none_added (frozen_commits log.frozen ++ log.active)) ∙ good.all;
-              below = good.below;
-              layers = (self, good.active, good.layers);
-              active = tt;
-            }
+            let next : last_number base events + 1 ≤ last_number base events + 1 = omega arith in
+            recorded before (record log { frozen = record { last = last_number base events; commits = log.active } ∷ log.frozen; active = [] }) base events good.gone
+            (ap (λ (l : List Numbered). good.gone ++ l) (none_added (frozen_commits log.frozen ++ log.active)) ∙ good.all)
+            good.below (self, good.active, good.layers) next
       ]
 
 -- ---- the oldest layer leaves
@@ -110,6 +171,7 @@ pub record Leaves (horizon last : ℕ) (layers : List Frozen) (layer : Frozen) :
   up_to : CommitsUpTo layer.last layer.commits
   pub above : horizon ≤ layer.last
   rest : AreLayers layer.last last (without_oldest layers)
+  newest : last_frozen layer.last (without_oldest layers) ≡ last_frozen horizon layers
 
 pub leaves : (horizon last : ℕ) (layers : List Frozen) (layer : Frozen) → oldest layers ≡ Some layer → AreLayers horizon last layers → Leaves horizon last layers layer
 leaves horizon last [] layer is are = absurd cc
@@ -117,9 +179,10 @@ leaves horizon last (first ∷ []) layer is are =
     let same : first ≡ layer = cc in
     subst (Leaves horizon last (first ∷ [])) same (record {
       split = sym (none_added first.commits);
-      up_to = are.1;
+      up_to = between_up_to horizon first.last first.commits are.1;
       above = are.2;
       rest = are.0;
+      newest = refl;
     })
 leaves horizon last (first ∷ next ∷ layers) layer is are =
     let there : Leaves horizon first.last (next ∷ layers) layer = leaves horizon first.last (next ∷ layers) layer is are.2 in
@@ -129,7 +192,8 @@ leaves horizon last (first ∷ next ∷ layers) layer is are =
           ∙ append_assoc layer.commits (frozen_commits (without_oldest (next ∷ layers))) first.commits;
       up_to = there.up_to;
       above = there.above;
-      rest = (are.0, are.1, there.rest);
+      rest = (are.0, subst (λ (n : ℕ). CommitsBetween n first.last first.commits) (sym there.newest) are.1, there.rest);
+      newest = refl;
     }
 
 gone_recorded : (before : List Numbered) (log : LogState) (base : State) (events : List Event) (layer : Option Frozen) → oldest log.frozen ≡ layer
@@ -138,18 +202,14 @@ gone_recorded before log base events None is good = good
 gone_recorded before log base events (Some layer) is good =
     let there : Leaves log.horizon (last_number base events) log.frozen layer =
     leaves log.horizon (last_number base events) log.frozen layer is good.layers in
-    record {
-      gone = good.gone ++ layer.commits;
-      all =
-          append_assoc good.gone layer.commits (frozen_commits (without_oldest log.frozen) ++ log.active)
-          ∙ ap (λ (l : List Numbered). good.gone ++ l)
-          (sym (append_assoc layer.commits (frozen_commits (without_oldest log.frozen)) log.active)
-          ∙ ap (λ (l : List Numbered). l ++ log.active) (sym there.split))
-          ∙ good.all;
-      below = joined layer.last good.gone layer.commits (further log.horizon layer.last good.gone there.above good.below) there.up_to;
-      layers = there.rest;
-      active = good.active;
-    }
+    recorded before (oldest_gone log (Some layer)) base events (good.gone ++ layer.commits)
+    (append_assoc good.gone layer.commits (frozen_commits (without_oldest log.frozen) ++ log.active)
+    ∙ ap (λ (l : List Numbered). good.gone ++ l)
+    (sym (append_assoc layer.commits (frozen_commits (without_oldest log.frozen)) log.active)
+    ∙ ap (λ (l : List Numbered). l ++ log.active) (sym there.split))
+    ∙ good.all)
+    (joined layer.last good.gone layer.commits (further log.horizon layer.last good.gone there.above good.below) there.up_to) there.rest
+    (subst (λ (n : ℕ). CommitsBetween n (last_number base events) log.active) (sym there.newest) good.active)
 
 log_after_recorded : (before : List Numbered) (log : LogState) (base : State) (events : List Event) (work : Work) → Records before log base events
     → Records before (log_after log work) base events

@@ -1,13 +1,14 @@
 -- What keeps within the limits, part by part.
 use Rattle.std.proofs.Common.{◌≡◌, ℕ, zero, suc, ◌+◌, ◌-◌, ◌^◌, ◌<◌, ◌≤◌, ◌==◌, nat_lt, nat_le, Bool, true, false, not, cond, ◌&&◌, ◌||◌, List, [], ◌∷◌, ◌++◌, length, Option, Some, None, refl, sym, ◌∙◌, ap, subst, arith, zero-add, length-append}
 use Rattle.std.specs.Prelude.{set}
-use Rattle.std.specs.List.{slice_get, filter}
+use Rattle.std.specs.List.{slice_get, filter, AllByRecursion}
 use Rattle.std.proofs.lemmas.List.{length-map, length-set}
 use Rattle.std.proofs.lemmas.List.Sums.{sum_by-append}
 use Rattle.std.proofs.lemmas.Bool.Decides.{nat_tests}
 use Rattle.hse_rows.specs.declared.store.Mode.{Mode}
 use Rattle.hse_rows.specs.declared.write.Write.{Write}
 use Rattle.hse_rows.specs.Charge.{charge_of}
+use Rattle.hse_rows.specs.Rising.{rise-filter, rise-push}
 use Rattle.hse_rows.specs.State.{Store, State}
 use Rattle.hse_rows.specs.Holding.{written_all, applied_all-stores}
 use Rattle.hse_rows.specs.History.{Event, commits, creates, drops, new_store, happened, folded, last_number}
@@ -16,7 +17,7 @@ use Rattle.hse_rows.specs.Transaction.{Transaction, is_active}
 use Rattle.hse_rows.specs.Log.{LogState, Frozen, Numbered, charge_of_active, room_of, room_left, logged}
 use Rattle.hse_rows.specs.ManifestRoom.{ManifestState, half_room, fits, cannot_roll, gained, greatest_sequence}
 use Rattle.hse_rows.specs.Sizes.{Sizes}
-use Rattle.hse_rows.specs.Job.{JobWish, ingest, of_run, Work, ingesting, on_run, Job, JobState, job_of, needed_blocks, live_ingest, claimer, first_on, is_picked, is_built}
+use Rattle.hse_rows.specs.Job.{JobWish, ingest, of_run, Work, ingesting, on_run, Job, AreApart, JobState, job_of, needed_blocks, live_ingest, claimer, first_on, is_picked, is_built}
 use Rattle.hse_rows.specs.Job as job_states
 use Rattle.hse_rows.specs.Layout.{NewSet}
 use Rattle.hse_rows.specs.Turn.{Turn, home, taken, ran}
@@ -26,8 +27,8 @@ use Rattle.hse_rows.specs.Core.{Core, oldest}
 use Rattle.hse_rows.specs.ManifestEntry.{ManifestEntry, whole_need, has_no_room, entered}
 use Rattle.hse_rows.specs.CoreRefusal.{room_refusal, is_log_busy, entry_refusal}
 use Rattle.hse_rows.specs.CoreDone.{without_job, with_state, frozen_log, without_oldest, oldest_gone, log_after}
-use Rattle.hse_rows.specs.Limits.{HistoryFits, LogFits, ManifestFits, TransactionsFit, JobsFit, TurnFits}
-use Rattle.hse_rows.proofs.JobLemmas.{joined_below, further_below, led_below, fewer_below}
+use Rattle.hse_rows.specs.Limits.{HistoryFits, LayerFits, LogFits, ManifestFits, TransactionsFit, JobsFit, TurnFits}
+use Rattle.hse_rows.proofs.JobLemmas.{led_numbered, push_apart, filter_apart, led_apart}
 use Rattle.hse_rows.proofs.PassLemmas.{passes}
 
 -- ---- numbers
@@ -108,20 +109,22 @@ logged_fits m number writes good passed =
     let small : charge_of writes ≤ left = at_most left (charge_of writes) (passes (nat_lt left (charge_of writes)) (replies.log_full (charge_of writes) left) None passed).0 in
     let before : charge_of_active m.log ≤ room_of m.sizes.segment_size = good.room in
     let after : charge_of_active (logged m.log number writes) ≡ charge_of_active m.log + charge_of writes = charge_logged m.log number writes in
-    record { room = omega (arith, after, small, before); layers = good.layers; segments = good.segments }
+    record { room = omega (arith, after, small, before); layers = good.layers; frozen = good.frozen; segments = good.segments }
 
 pub frozen_fits : (sizes : Sizes) (log : LogState) (last : ℕ) → LogFits sizes log → is_log_busy log ≡ false → LogFits sizes (frozen_log log last)
 frozen_fits sizes log last good free =
     elim (length log.active == 0)
-    as (λ b. (not b && (nat_le 3 (length log.frozen) || nat_le (2 ^ 62) (log.first_segment + length log.frozen))) ≡ false
+    as (λ b. (length log.active == 0) ≡ b → (not b && (nat_le 3 (length log.frozen) || nat_le (2 ^ 62) (log.first_segment + length log.frozen))) ≡ false
     → LogFits sizes (cond b log (record log { frozen = record { last = last; commits = log.active } ∷ log.frozen; active = [] }))) [
-      | true ↦ λ e. good
-      | false ↦ λ e.
+      | true ↦ λ is e. good
+      | false ↦ λ is e.
           let parts = or_parts (nat_le 3 (length log.frozen)) (nat_le (2 ^ 62) (log.first_segment + length log.frozen)) e in
           let few : length log.frozen < 3 = below 3 (length log.frozen) parts.0 in
           let low : log.first_segment + length log.frozen < 2 ^ 62 = below (2 ^ 62) (log.first_segment + length log.frozen) parts.1 in
-          record { room = omega arith; layers = omega arith; segments = omega arith }
-    ] free
+          let some : 0 < length log.active = grind (arith, nat_tests) in
+          let newest : LayerFits sizes (record { last = last; commits = log.active }) = record { commits = some; room = good.room } in
+          record { room = omega arith; layers = omega arith; frozen = (newest, good.frozen); segments = omega arith }
+    ] refl free
 
 pub one_less : (layers : List Frozen) (layer : Frozen) → oldest layers ≡ Some layer → length (without_oldest layers) + 1 ≡ length layers
 one_less [] layer is = absurd cc
@@ -130,13 +133,18 @@ one_less (first ∷ next ∷ layers) layer is =
     let rest : length (without_oldest (next ∷ layers)) + 1 ≡ length (next ∷ layers) = one_less (next ∷ layers) layer is in
     omega (arith, rest)
 
+others_fit : (sizes : Sizes) (layers : List Frozen) → AllByRecursion (LayerFits sizes) layers → AllByRecursion (LayerFits sizes) (without_oldest layers)
+others_fit sizes [] fit = tt
+others_fit sizes (layer ∷ []) fit = tt
+others_fit sizes (layer ∷ next ∷ layers) fit = (fit.0, others_fit sizes (next ∷ layers) fit.1)
+
 pub oldest_gone_fits : (sizes : Sizes) (log : LogState) (layer : Option Frozen) → oldest log.frozen ≡ layer → LogFits sizes log → LogFits sizes (oldest_gone log layer)
 oldest_gone_fits sizes log None is good = good
 oldest_gone_fits sizes log (Some layer) is good =
     let less : length (without_oldest log.frozen) + 1 ≡ length log.frozen = one_less log.frozen layer is in
     let few : length log.frozen ≤ 3 = good.layers in
     let low : log.first_segment + length log.frozen ≤ 2 ^ 62 = good.segments in
-    record { room = good.room; layers = omega (arith, less, few); segments = omega (arith, less, low) }
+    record { room = good.room; layers = omega (arith, less, few); frozen = others_fit sizes log.frozen good.frozen; segments = omega (arith, less, low) }
 
 pub log_after_fits : (sizes : Sizes) (log : LogState) (work : Work) → LogFits sizes log → LogFits sizes (log_after log work)
 log_after_fits sizes log ingesting good = oldest_gone_fits sizes log (oldest log.frozen) refl good
@@ -235,24 +243,27 @@ one_other begun order old new is still good =
 -- ---- jobs
 
 pub picked_fits : (jobs : List Job) (picked : ℕ) (work : Work) → JobsFit jobs picked → length jobs < 64
+    → AllByRecursion (λ job. AreApart job.work work) jobs
     → JobsFit (jobs ++ record { id = picked; work = work; state = job_states.picked; sets = [] } ∷ []) (picked + 1)
-picked_fits jobs picked work good few =
+picked_fits jobs picked work good few apart =
     let job : Job = record { id = picked; work = work; state = job_states.picked; sets = [] } in
     let more = length-append jobs (job ∷ []) in
+    let self : picked ≤ picked = omega arith in
     let next : picked < picked + 1 = omega arith in
     record {
       live = omega (arith, few, more);
-      ids = joined_below (picked + 1) jobs job (further_below picked (picked + 1) jobs next good.ids) next;
+      ids = rise-push (λ (j : Job). j.id) 0 picked (picked + 1) jobs job good.ids self next;
+      claims = push_apart jobs job good.claims apart;
     }
 
 pub without_fits : (jobs : List Job) (picked id : ℕ) → JobsFit jobs picked → JobsFit (without_job jobs id) picked
 without_fits jobs picked id good =
     let few : length jobs ≤ 64 = good.live in
     let less : length (without_job jobs id) ≤ length jobs = fewer (λ (job : Job). not (job.id == id)) jobs in
-    record { live = omega (arith, few, less); ids = fewer_below picked (λ (job : Job). not (job.id == id)) jobs good.ids }
+    record { live = omega (arith, few, less); ids = rise-filter (λ (job : Job). job.id) (λ (job : Job). not (job.id == id)) 0 picked jobs good.ids; claims = filter_apart (λ (job : Job). not (job.id == id)) jobs good.claims }
 
 pub led_fits : (jobs : List Job) (picked id : ℕ) (state : JobState) (new : List NewSet) → JobsFit jobs picked → JobsFit (with_state jobs id state new) picked
 led_fits jobs picked id state new good =
     let few : length jobs ≤ 64 = good.live in
     let same_length : length (with_state jobs id state new) ≡ length jobs = length-map jobs _ in
-    record { live = omega (arith, few, same_length); ids = led_below picked id state new jobs good.ids }
+    record { live = omega (arith, few, same_length); ids = led_numbered 0 picked id state new jobs good.ids; claims = led_apart id state new jobs good.claims }

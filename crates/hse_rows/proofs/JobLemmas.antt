@@ -1,15 +1,16 @@
 -- A job that was just picked, among those with ids below it.
 use Rattle.std.specs.Prelude.{◌==◌}
-use Rattle.std.specs.List.{AllByRecursion, filter}
+use Rattle.std.specs.List.{AllByRecursion, filter, find}
 use Rattle.std.proofs.Common.{◌≡◌, ℕ, ◌+◌, ◌<◌, Bool, true, false, not, cond, List, [], ◌∷◌, ◌++◌, Option, Some, None, refl, sym, ◌∙◌, ap, subst, arith}
 use Rattle.std.proofs.lemmas.Bool.Decides.{nat_tests}
+use Rattle.hse_rows.specs.Rising.{Rise, rise-below}
 use Rattle.hse_rows.specs.State.{store_named}
 use Rattle.hse_rows.specs.Timeline.{for_some}
 use Rattle.hse_rows.specs.Layout.{NewSet}
-use Rattle.hse_rows.specs.Job.{JobWish, ingest, of_run, Work, on_run, Job, JobState, picked, built, is_picked, is_installing, job_of}
+use Rattle.hse_rows.specs.Job.{JobWish, ingest, of_run, Work, on_run, Job, AreNumbered, AreApart, ClaimApart, JobState, picked, built, is_picked, is_installing, job_of}
 use Rattle.hse_rows.specs.Replies as replies
 use Rattle.hse_rows.specs.Calls.{build, drop_job}
-use Rattle.hse_rows.specs.Core.{Core, JobsAreNumbered, now}
+use Rattle.hse_rows.specs.Core.{Core, now}
 use Rattle.hse_rows.specs.CoreRefusal.{refusal, refuse, pick_refusal, with_job}
 use Rattle.hse_rows.specs.CoreReply.{sets_for}
 use Rattle.hse_rows.specs.CoreDone.{done, without_job, with_state, with_picked, picking, building, run_of}
@@ -46,35 +47,76 @@ last_gone (job ∷ jobs) last below =
     (other_id job.id last.id below.0)
     ∙ ap (λ (l : List Job). job ∷ l) (last_gone jobs last below.1)
 
--- ---- ids stay below
+-- ---- ids
 
-pub joined_below : (number : ℕ) (jobs : List Job) (last : Job) → AreBelow number jobs → last.id < number → AreBelow number (jobs ++ last ∷ [])
-joined_below number [] last below less = (less, tt)
-joined_below number (job ∷ jobs) last below less = (below.0, joined_below number jobs last below.1 less)
+pub numbered_below : (jobs : List Job) (count : ℕ) → AreNumbered jobs count → AreBelow count jobs
+numbered_below jobs count numbered = rise-below (λ (job : Job). job.id) 0 count jobs numbered
 
-pub further_below : (low high : ℕ) (jobs : List Job) → low < high → AreBelow low jobs → AreBelow high jobs
-further_below low high [] more below = tt
-further_below low high (job ∷ jobs) more below =
-    let here : job.id < low = below.0 in
-    let there : job.id < high = omega (arith, here, more) in
-    (there, further_below low high jobs more below.1)
-
-pub led_below : (number id : ℕ) (state : JobState) (sets : List NewSet) (jobs : List Job) → AreBelow number jobs
-    → AreBelow number (with_state jobs id state sets)
-led_below number id state sets [] below = tt
-led_below number id state sets (job ∷ jobs) below = (by (job.id == id), led_below number id state sets jobs below.1)
+pub led_numbered : (low high id : ℕ) (state : JobState) (sets : List NewSet) (jobs : List Job) → Rise (λ job. job.id) low high jobs
+    → Rise (λ job. job.id) low high (with_state jobs id state sets)
+led_numbered low high id state sets [] rises = rises
+led_numbered low high id state sets (job ∷ jobs) rises = by (job.id == id) (led_numbered (job.id + 1) high id state sets jobs rises.1)
   where
-    by : (b : Bool) → (cond b (record job { state = state; sets = sets }) job).id < number
-    by true = below.0
-    by false = below.0
+    by : (b : Bool) → Rise (λ job. job.id) (job.id + 1) high (with_state jobs id state sets)
+        → Rise (λ job. job.id) low high (cond b (record job { state = state; sets = sets }) job ∷ with_state jobs id state sets)
+    by true rest = (rises.0, rest)
+    by false rest = (rises.0, rest)
 
-pub fewer_below : (number : ℕ) (p : Job → Bool) (jobs : List Job) → AreBelow number jobs → AreBelow number (filter p jobs)
-fewer_below number p [] below = tt
-fewer_below number p (job ∷ jobs) below = by (p job) (fewer_below number p jobs below.1)
+-- ---- claims
+
+all_push : (P : Job → Type 0) (jobs : List Job) (last : Job) → AllByRecursion P jobs → P last → AllByRecursion P (jobs ++ last ∷ [])
+all_push P [] last all it = (it, tt)
+all_push P (job ∷ jobs) last all it = (all.0, all_push P jobs last all.1 it)
+
+all_filter : (P : Job → Type 0) (p : Job → Bool) (jobs : List Job) → AllByRecursion P jobs → AllByRecursion P (filter p jobs)
+all_filter P p [] all = tt
+all_filter P p (job ∷ jobs) all = by (p job) (all_filter P p jobs all.1)
   where
-    by : (b : Bool) → AreBelow number (filter p jobs) → AreBelow number (cond b (job ∷ filter p jobs) (filter p jobs))
-    by true rest = (below.0, rest)
+    by : (b : Bool) → AllByRecursion P (filter p jobs) → AllByRecursion P (cond b (job ∷ filter p jobs) (filter p jobs))
+    by true rest = (all.0, rest)
     by false rest = rest
+
+all_led : (earlier : Work) (id : ℕ) (state : JobState) (sets : List NewSet) (jobs : List Job) → AllByRecursion (λ later. AreApart earlier later.work) jobs
+    → AllByRecursion (λ later. AreApart earlier later.work) (with_state jobs id state sets)
+all_led earlier id state sets [] all = tt
+all_led earlier id state sets (job ∷ jobs) all = (by (job.id == id), all_led earlier id state sets jobs all.1)
+  where
+    by : (b : Bool) → AreApart earlier (cond b (record job { state = state; sets = sets }) job).work
+    by true = all.0
+    by false = all.0
+
+pub push_apart : (jobs : List Job) (last : Job) → ClaimApart jobs → AllByRecursion (λ job. AreApart job.work last.work) jobs → ClaimApart (jobs ++ last ∷ [])
+push_apart [] last apart from = (tt, tt)
+push_apart (job ∷ jobs) last apart from =
+    (all_push (λ later. AreApart job.work later.work) jobs last apart.0 from.0, push_apart jobs last apart.1 from.1)
+
+pub filter_apart : (p : Job → Bool) (jobs : List Job) → ClaimApart jobs → ClaimApart (filter p jobs)
+filter_apart p [] apart = tt
+filter_apart p (job ∷ jobs) apart = by (p job) (all_filter (λ later. AreApart job.work later.work) p jobs apart.0) (filter_apart p jobs apart.1)
+  where
+    by : (b : Bool) → AllByRecursion (λ later. AreApart job.work later.work) (filter p jobs) → ClaimApart (filter p jobs)
+        → ClaimApart (cond b (job ∷ filter p jobs) (filter p jobs))
+    by true first rest = (first, rest)
+    by false first rest = rest
+
+pub led_apart : (id : ℕ) (state : JobState) (sets : List NewSet) (jobs : List Job) → ClaimApart jobs → ClaimApart (with_state jobs id state sets)
+led_apart id state sets [] apart = tt
+led_apart id state sets (job ∷ jobs) apart = by (job.id == id) (all_led job.work id state sets jobs apart.0) (led_apart id state sets jobs apart.1)
+  where
+    by : (b : Bool) → AllByRecursion (λ later. AreApart job.work later.work) (with_state jobs id state sets) → ClaimApart (with_state jobs id state sets)
+        → ClaimApart (cond b (record job { state = state; sets = sets }) job ∷ with_state jobs id state sets)
+    by true first rest = (first, rest)
+    by false first rest = (first, rest)
+
+pub none_found : (p : Job → Bool) (jobs : List Job) → find p jobs ≡ None → AllByRecursion (λ job. p job ≡ false) jobs
+none_found p [] none = tt
+none_found p (job ∷ jobs) none = by (p job) refl none (none_found p jobs)
+  where
+    by : (b : Bool) → p job ≡ b → cond b (Some job) (find p jobs) ≡ None
+        → (find p jobs ≡ None → AllByRecursion (λ later. p later ≡ false) jobs)
+        → (p job ≡ false) × AllByRecursion (λ later. p later ≡ false) jobs
+    by true is e rest = absurd cc
+    by false is e rest = (is, rest e)
 
 -- ---- a pick
 
@@ -87,7 +129,7 @@ picks m (of_run kind name path from len) none =
     (λ store is none. (_, refl, (passes m.is_broken replies.broken _ none).0)) none
 
 -- and adds a job to those that are there
-module _ (m : Core) (numbered : JobsAreNumbered m) (work : Work) where
+module _ (m : Core) (numbered : AreBelow m.picked m.jobs) (work : Work) where
   abbrev pub new_job : Job
   new_job = record { id = m.picked; work = work; state = picked; sets = [] }
 

@@ -50,6 +50,7 @@ mod MeaningCases
 pub mod FitLemmas
 pub mod CoreFits
 pub mod CoreLimits
+pub mod BlockLemmas
 pub mod CoreRecords
 pub mod ManifestRecords
 pub mod CoreKeepsRecords

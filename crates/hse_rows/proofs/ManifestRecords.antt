@@ -24,7 +24,7 @@ use Rattle.hse_rows.specs.CoreDone.{taking_install, done, refused_to, failing, c
 use Rattle.hse_rows.specs.Recorded.{taken_in, AreLayers, above, due_by, due, PlanRecords, TurnRecords, BreaksBy}
 use Rattle.hse_rows.proofs.PassLemmas.{passes, not_busy, not_held, not_busy_with, found, found_job}
 use Rattle.hse_rows.proofs.RecordLemmas.{taken_push}
-use Rattle.hse_rows.proofs.CoreRecords.{none_added, leaves}
+use Rattle.hse_rows.proofs.CoreRecords.{none_added, horizon_below, leaves}
 
 -- ---- numbers above a horizon
 
@@ -63,14 +63,6 @@ all_above horizon (number ∷ numbers) high =
     let test : nat_lt horizon number ≡ true = grind (arith, nat_tests) in
     ap (λ (b : Bool). cond b (number ∷ above horizon numbers) (above horizon numbers)) test
     ∙ ap (λ (l : List ℕ). number ∷ l) (all_above horizon numbers high.1)
-
--- the horizon is not above the last number
-horizon_below : (horizon last : ℕ) (layers : List Frozen) → AreLayers horizon last layers → horizon ≤ last
-horizon_below horizon last [] are = are
-horizon_below horizon last (layer ∷ layers) are =
-    let rest : horizon ≤ layer.last = horizon_below horizon layer.last layers are.2 in
-    let here : layer.last ≤ last = are.0 in
-    omega (arith, rest, here)
 
 frozen_horizon : (log : LogState) (last : ℕ) → (frozen_log log last).horizon ≡ log.horizon
 frozen_horizon log last =

@@ -1,5 +1,5 @@
 -- Small cases of jobs that are refused after their pick, the calls of lines, and what log and manifest record, worked by hand.
-use Rattle.std.proofs.Common.{◌≡◌, inl, inr, ℕ, [], ◌∷◌, refl, arith}
+use Rattle.std.proofs.Common.{◌≡◌, inl, inr, ℕ, ◌≤◌, [], ◌∷◌, refl, arith}
 use Rattle.std.specs.Prelude.{codes}
 use Rattle.hse_rows.specs.declared.store.Mode.TheVariants.{Plain}
 use Rattle.hse_rows.specs.NormalForm.{normal_form}
@@ -7,7 +7,7 @@ use Rattle.hse_rows.specs.Newest.{newest}
 use Rattle.hse_rows.specs.Sizes.{Sizes}
 use Rattle.hse_rows.specs.Job.{ingest}
 use Rattle.hse_rows.specs.Turn.{freeze, create, Turn, home, taken, ran}
-use Rattle.hse_rows.specs.Replies.{accepted, refused, full, node_busy}
+use Rattle.hse_rows.specs.Replies.{accepted, broken, device_fault, full, node_busy, ok, refused, written}
 use Rattle.hse_rows.specs.Calls as call
 use Rattle.hse_rows.specs.Core.{formatted, life}
 use Rattle.hse_rows.specs.Recorded.{taken_in, due, IsRecorded, IsInOrder}
@@ -15,7 +15,7 @@ use Rattle.hse_rows.specs.ScriptLines.{pick, build, take, take_install, turn, jo
 use Rattle.hse_rows.specs.Script.{Script}
 use Rattle.hse_rows.specs.ScriptDone.{failing, once_picked}
 use Rattle.hse_rows.specs.ScriptStep.{LacksMemory}
-use Rattle.hse_rows.specs.ScriptCalls.{calls_of}
+use Rattle.hse_rows.specs.ScriptCalls.{told_by, calls_of}
 use Rattle.hse_rows.specs.ScriptLaws.{IsLoadable}
 use Rattle.hse_rows.proofs.RowCases.{device, started, led, answers, put_out, a, b, s, one}
 
@@ -109,21 +109,37 @@ it_is_an_event = refl
 the_manifest_has_it_not : broken_creation.core.manifest.taken ≡ []
 the_manifest_has_it_not = refl
 
+-- calls in a row tell the first answer that is not of one that was done, or else the last
+a_fault_tells : told_by accepted (device_fault ∷ refused broken ∷ []) ≡ device_fault
+a_fault_tells = refl
+
+the_last_tells : told_by accepted (written ∷ ok 3 ∷ []) ≡ ok 3
+the_last_tells = refl
+
 a_new_device_is_in_order : IsInOrder (formatted device)
-a_new_device_is_in_order = record { layers = omega arith; active = tt; taken = tt }
+a_new_device_is_in_order = record { layers = omega arith; active = omega arith; taken = tt }
+
+-- a log with a commit that the horizon passed is in no order
+a_commit_that_is_not_above_it_is_not : ¬ IsInOrder (record (formatted device) {
+  base = record { number = 1; stores = [] };
+  log = record { horizon = 1; first_segment = 2; frozen = []; active = record { number = 1; writes = [] } ∷ [] };
+})
+a_commit_that_is_not_above_it_is_not ordered =
+    let above : 2 ≤ 1 = ordered.active.0 in
+    absurd (omega (arith, above))
 
 -- and within the limits, so that each script on it is sound
 it_may_be_loaded : IsLoadable (formatted device)
 it_may_be_loaded = record {
   limits = record {
     history = record { numbers = omega arith; stores = omega arith };
-    log = record { room = omega arith; layers = omega arith; segments = omega arith };
+    log = record { room = omega arith; layers = omega arith; frozen = tt; segments = omega arith };
     manifest = record { used = omega arith; sequence = omega arith };
     slots = omega arith;
     since_base = omega arith;
     until_now = omega arith;
     transactions = record { live = omega arith; begins = omega arith };
-    jobs = record { live = omega arith; ids = tt };
+    jobs = record { live = omega arith; ids = omega arith; claims = tt };
     cursors = omega arith;
     turn = tt;
   };

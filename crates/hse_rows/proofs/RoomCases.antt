@@ -1,20 +1,23 @@
 -- Small cases of the machine's limits: stores, numbers and the manifest's room, worked by hand.
-use Rattle.std.proofs.Common.{◌≡◌, ℕ, ◌+◌, ◌-◌, ◌*◌, ◌/◌, ◌%◌, ◌≤◌, List, [], ◌∷◌, length, map, Some, None, refl, arith}
+use Rattle.std.proofs.Common.{◌≡◌, ℕ, ◌+◌, ◌-◌, ◌*◌, ◌/◌, ◌%◌, ◌≤◌, List, [], ◌∷◌, length, map, Some, None, true, false, refl, arith}
 use Rattle.std.specs.Prelude.{codes}
 use Rattle.std.specs.List.{range_with_len}
 use Rattle.hse_rows.specs.declared.store.Mode.TheVariants.{Plain, Tx}
 use Rattle.hse_rows.specs.NormalForm.{normal_form}
 use Rattle.hse_rows.specs.State.{Store}
-use Rattle.hse_rows.specs.History.{new_store}
+use Rattle.hse_rows.specs.History.{drops, new_store}
 use Rattle.hse_rows.specs.Log.{new_log}
 use Rattle.hse_rows.specs.TakenRuns.{runs_of}
 use Rattle.hse_rows.specs.ManifestRoom.{batch_bytes, base_bytes}
 use Rattle.hse_rows.specs.Replies.{store_exists, broken, too_many, spent, manifest_full, txn_size, log_full, ok, figures}
-use Rattle.hse_rows.specs.Core.{life, new_manifest}
+use Rattle.hse_rows.specs.Job.{keys, Job, ingesting, on_run}
+use Rattle.hse_rows.specs.Job as job
+use Rattle.hse_rows.specs.Turn as turn
+use Rattle.hse_rows.specs.Core.{Core, life, new_manifest}
 use Rattle.hse_rows.specs.Core as core
 use Rattle.hse_rows.specs.Limits.{IsWithinLimits}
 use Rattle.hse_rows.specs.CoreStep.{loads}
-use Rattle.hse_rows.specs.CoreLaws.{LoadsWithinLimits}
+use Rattle.hse_rows.specs.CoreLaws.{LoadsWithinLimits, WorkFits}
 use Rattle.hse_rows.specs.ScriptLines.{Line, get, info}
 use Rattle.hse_rows.specs.Script.{Script, begins_with}
 use Rattle.hse_rows.specs.ScriptRefusal.{refusal}
@@ -232,13 +235,13 @@ figures_tell_layers_charge_and_slots = refl
 a_new_device_is_within_them : IsWithinLimits (life (core.formatted small))
 a_new_device_is_within_them = record {
   history = record { numbers = omega arith; stores = omega arith };
-  log = record { room = omega arith; layers = omega arith; segments = omega arith };
+  log = record { room = omega arith; layers = omega arith; frozen = tt; segments = omega arith };
   manifest = record { used = omega arith; sequence = omega arith };
   slots = omega arith;
   since_base = omega arith;
   until_now = omega arith;
   transactions = record { live = omega arith; begins = omega arith };
-  jobs = record { live = omega arith; ids = tt };
+  jobs = record { live = omega arith; ids = omega arith; claims = tt };
   cursors = omega arith;
   turn = tt;
 }
@@ -252,6 +255,56 @@ more_slots_than_there_are_are_not : ¬ IsWithinLimits (record fresh.core { used_
 more_slots_than_there_are_are_not within =
     let used : 65 ≤ 64 = within.slots in
     absurd (omega (arith, used))
+
+a_frozen_layer_without_commits_is_not : ¬ IsWithinLimits (record fresh.core {
+  log = record { horizon = 0; first_segment = 1; frozen = record { last = 0; commits = [] } ∷ []; active = [] };
+})
+a_frozen_layer_without_commits_is_not within =
+    let some : 1 ≤ 0 = within.log.frozen.0.commits in
+    absurd (omega (arith, some))
+
+abbrev picked_job : Job
+picked_job = record { id = 0; work = ingesting; state = job.picked; sets = [] }
+
+two_jobs_of_one_id_are_not : ¬ IsWithinLimits (record fresh.core { jobs = picked_job ∷ picked_job ∷ []; picked = 2 })
+two_jobs_of_one_id_are_not within =
+    let rises : 1 ≤ 0 = within.jobs.ids.1.0 in
+    absurd (omega (arith, rises))
+
+two_ingests_are_not : ¬ IsWithinLimits (record fresh.core { jobs = picked_job ∷ record picked_job { id = 1 } ∷ []; picked = 2 })
+two_ingests_are_not within =
+    absurd (let no : true ≡ false = within.jobs.claims.0.0 in cc)
+
+-- an install's number is what is safe
+abbrev install_of_number : ℕ → Core
+install_of_number number = record fresh.core {
+  turn = turn.taken (record { kind = turn.installing; number = number; plan = turn.installs 0 ingesting [] fresh.core.manifest; calls = true });
+  timeline = record { base = fresh.core.timeline.base; history = drops 9 ∷ []; begun = [] };
+}
+
+an_install_of_a_later_number_is_not : ¬ IsWithinLimits (install_of_number 1)
+an_install_of_a_later_number_is_not within =
+    let same : 1 ≡ 0 = within.turn.2.1 in
+    absurd (omega (arith, same))
+
+a_run_beyond_its_node_does_not_fit : ¬ WorkFits [] (on_run (record {
+  kind = keys;
+  store = 1;
+  prefix_length = 0;
+  path = [];
+  older = 0;
+  len = 1;
+  last = true;
+})) []
+a_run_beyond_its_node_does_not_fit fits =
+    let over : 1 ≤ 0 = fits.0 in
+    absurd (omega (arith, over))
+
+a_turn_of_another_kind_is_not : ¬ IsWithinLimits (record fresh.core {
+  turn = turn.taken (record { kind = turn.syncing; number = 0; plan = turn.enters fresh.core.manifest; calls = true });
+})
+a_turn_of_another_kind_is_not within =
+    absurd (let no : turn.syncing ≡ turn.creating = within.turn.2.0 in cc)
 
 what_is_safe_is_not_above_the_last_number : ¬ IsWithinLimits (record fresh.core { safe = 1 })
 what_is_safe_is_not_above_the_last_number within =

@@ -1,13 +1,14 @@
 -- A line is a run of calls of the core.
-use Rattle.std.proofs.Common.{◌≡◌, ℕ, ◌+◌, true, false, List, [], ◌∷◌, Some, None, refl, sym, ◌∙◌, ap, subst}
+use Rattle.std.proofs.Common.{◌≡◌, ℕ, ◌+◌, true, false, List, [], ◌∷◌, Option, Some, None, refl, sym, ◌∙◌, ap, subst}
 use Rattle.hse_rows.specs.State.{store_named}
-use Rattle.hse_rows.specs.Job.{JobWish, is_built}
+use Rattle.hse_rows.specs.Timeline.{for_some}
+use Rattle.hse_rows.specs.Job.{JobWish, Job, is_built, job_of, needed_blocks}
 use Rattle.hse_rows.specs.Turn.{TurnWish, sync, freeze, create, drop, TakenTurn, Turn, taken, written, Calls}
 use Rattle.hse_rows.specs.Replies as replies
 use Rattle.hse_rows.specs.Replies.{Refusal, Answer}
 use Rattle.hse_rows.specs.Calls.{inside, outside, Call}
 use Rattle.hse_rows.specs.Calls as call
-use Rattle.hse_rows.specs.Core.{Core, JobsAreNumbered, now}
+use Rattle.hse_rows.specs.Core.{Core, now}
 use Rattle.hse_rows.specs.CoreRefusal.{take_refusal, install_refusal, drop_refusal, unless_not_taken, unless_run_well}
 use Rattle.hse_rows.specs.CoreRefusal as core
 use Rattle.hse_rows.specs.CoreReply as replied
@@ -15,11 +16,11 @@ use Rattle.hse_rows.specs.CoreDone.{taking, taking_install, with_picked}
 use Rattle.hse_rows.specs.CoreDone as leads
 use Rattle.hse_rows.specs.CoreStep.{Found}
 use Rattle.hse_rows.specs.ScriptRefusal.{with_built}
-use Rattle.hse_rows.specs.ScriptDone.{turned, turn_failed}
-use Rattle.hse_rows.specs.ScriptCalls.{Leads, turn_calls}
+use Rattle.hse_rows.specs.ScriptDone.{turned, turn_failed, turn_reply}
+use Rattle.hse_rows.specs.ScriptCalls.{Leads, told_by, turn_calls}
 use Rattle.hse_rows.proofs.PassLemmas.{found, found_job}
 use Rattle.hse_rows.proofs.CoreAnswers.{IsOther, call_passes}
-use Rattle.hse_rows.proofs.JobLemmas.{picks, with_built_job, build_passes, built_is, picked_drops, built_drops, picked_gone, built_gone}
+use Rattle.hse_rows.proofs.JobLemmas.{AreBelow, picks, with_built_job, build_passes, built_is, picked_drops, built_drops, picked_gone, built_gone}
 
 -- ---- turns
 
@@ -51,40 +52,42 @@ install_takes m id none = let it = takes_install m id none in record { other = t
 
 module _ (f : Found) where
   -- a call alone
-  pub one : (m : Core) (c : Call) → IsOther c → core.refusal m c ≡ None → Leads f m (c ∷ []) (leads.done m c)
-  one m c other none = (leads.done m c, replied.reply m c, call_passes f m c other none, refl)
+  pub one : (m : Core) (c : Call) → IsOther c → core.refusal m c ≡ None → Leads f m (c ∷ []) (replied.reply m c ∷ []) (leads.done m c)
+  one m c other none = (leads.done m c, call_passes f m c other none, refl)
 
-  pub turn_led : (m : Core) (first : Call) → Takes m first → Leads f m (turn_calls first) (turned m first)
+  abbrev pub turn_answers : Core → Call → List (Answer ℕ)
+  turn_answers m first = replied.reply m first ∷ replies.written ∷ turn_reply m first ∷ []
+
+  pub turn_led : (m : Core) (first : Call) → Takes m first → Leads f m (turn_calls first) (turn_answers m first) (turned m first)
   turn_led m first it =
       let out = it.out in
       let taken_one : Core = leads.done m first in
       let run_one : Core = leads.done taken_one call.write_turn in (
         taken_one,
-        replied.reply m first,
         call_passes f m first it.other it.passed,
         (
           run_one,
-          replies.written,
           (ap unless_not_taken out, refl, refl),
           one run_one call.end_turn tt (ap (λ (t : Turn). unless_run_well (written t false)) out),
         ),
       )
 
-  pub turn_failed_led : (m : Core) (first : Call) → Takes m first → Calls (leads.done m first).turn → Leads f m (turn_calls first) (turn_failed m first)
+  abbrev pub failed_answers : Core → Call → List (Answer ℕ)
+  failed_answers m first = replied.reply m first ∷ replies.device_fault ∷ replies.refused replies.broken ∷ []
+
+  pub turn_failed_led : (m : Core) (first : Call) → Takes m first → Calls (leads.done m first).turn
+      → Leads f m (turn_calls first) (failed_answers m first) (turn_failed m first)
   turn_failed_led m first it calls =
       let out = it.out in
       let taken_one : Core = leads.done m first in
       let run_one : Core = leads.failing taken_one call.write_turn in (
         taken_one,
-        replied.reply m first,
         call_passes f m first it.other it.passed,
         (
           run_one,
-          replies.device_fault,
           (calls, refl),
           (
             leads.refused_to run_one call.end_turn,
-            replies.refused replies.broken,
             (ap (λ (t : Turn). unless_run_well (written t true)) out, refl),
             refl,
           ),
@@ -93,21 +96,34 @@ module _ (f : Found) where
 
   -- ---- jobs
 
-  module _ (m : Core) (numbered : JobsAreNumbered m) (wish : JobWish) (none : core.refusal m (call.pick wish) ≡ None) where
+  abbrev pub built_answer : Core → JobWish → Answer ℕ
+  built_answer m wish = replied.reply (leads.done m (call.pick wish)) (call.build m.picked)
+
+  -- a build that was done tells nothing
+  pub built_tells : (m : Core) (wish : JobWish) (next : Answer ℕ) (answers : List (Answer ℕ))
+      → told_by replies.accepted (built_answer m wish ∷ next ∷ answers) ≡ told_by next answers
+  built_tells m wish next answers = by (job_of (leads.done m (call.pick wish)).jobs m.picked)
+    where
+      by : (it : Option Job)
+          → told_by (for_some it replies.accepted (λ job. replies.ok (needed_blocks job.work (replied.sets_for (leads.done m (call.pick wish)) job.work))))
+          (next ∷ answers) ≡ told_by next answers
+      by None = refl
+      by (Some job) = refl
+
+  module _ (m : Core) (numbered : AreBelow m.picked m.jobs) (wish : JobWish) (none : core.refusal m (call.pick wish) ≡ None) where
     built_passes : core.refusal (leads.done m (call.pick wish)) (call.build m.picked) ≡ None
     built_passes =
         let it = picks m wish none in
         subst (λ (c : Core). core.refusal c (call.build m.picked) ≡ None) (sym it.1) (build_passes m numbered it.0 it.2)
 
     -- the pick and the build, and then others
-    pub built_first : (calls : List Call) (new : Core) → Leads f (with_built m wish) calls new
-        → Leads f m (call.pick wish ∷ call.build m.picked ∷ calls) new
-    built_first calls new later =
+    pub built_first : (calls : List Call) (answers : List (Answer ℕ)) (new : Core) → Leads f (with_built m wish) calls answers new
+        → Leads f m (call.pick wish ∷ call.build m.picked ∷ calls) (replies.accepted ∷ built_answer m wish ∷ answers) new
+    built_first calls answers new later =
         let picked_one : Core = leads.done m (call.pick wish) in (
           picked_one,
-          replies.accepted,
           (none, refl, refl),
-          (with_built m wish, replied.reply picked_one (call.build m.picked), call_passes f picked_one (call.build m.picked) tt built_passes, later),
+          (with_built m wish, call_passes f picked_one (call.build m.picked) tt built_passes, later),
         )
 
     with_built_is : with_built m wish ≡ with_built_job m numbered (picks m wish none).0
@@ -117,25 +133,29 @@ module _ (f : Found) where
 
     -- a job that is refused after its build is dropped
     pub refused_led : (reason : Refusal ℕ) → core.refusal (with_built m wish) (call.take_install m.picked) ≡ Some reason
-        → Leads f m (call.pick wish ∷ call.build m.picked ∷ call.take_install m.picked ∷ call.drop_job m.picked ∷ []) (record m { picked = m.picked + 1 })
+        → Leads f m (call.pick wish ∷ call.build m.picked ∷ call.take_install m.picked ∷ call.drop_job m.picked ∷ [])
+        (replies.accepted ∷ built_answer m wish ∷ replies.refused reason ∷ replies.accepted ∷ []) (record m { picked = m.picked + 1 })
     refused_led reason is =
-        built_first (call.take_install m.picked ∷ call.drop_job m.picked ∷ []) (record m { picked = m.picked + 1 }) (
+        built_first (call.take_install m.picked ∷ call.drop_job m.picked ∷ []) (replies.refused reason ∷ replies.accepted ∷ []) (record m { picked = m.picked + 1 }) (
           with_built m wish,
-          replies.refused reason,
           (is, refl),
-          subst (λ (c : Core). Leads f c (call.drop_job m.picked ∷ []) (record m { picked = m.picked + 1 })) (sym with_built_is)
-              (subst (Leads f (with_built_job m numbered (picks m wish none).0) (call.drop_job m.picked ∷ [])) (built_gone m numbered (picks m wish none).0)
+          subst (λ (c : Core). Leads f c (call.drop_job m.picked ∷ []) (replies.accepted ∷ []) (record m { picked = m.picked + 1 })) (sym with_built_is)
+              (subst (Leads f (with_built_job m numbered (picks m wish none).0) (call.drop_job m.picked ∷ []) (replies.accepted ∷ [])) (built_gone m numbered (picks m wish none).0)
               (one (with_built_job m numbered (picks m wish none).0) (call.drop_job m.picked) tt (built_drops m numbered (picks m wish none).0))),
         )
 
-    -- and so is one that lacks memory
-    pub dropped_led : Leads f m (call.pick wish ∷ call.drop_job m.picked ∷ []) (record m { picked = m.picked + 1 })
+    -- and so is one whose build lacks memory
+    pub dropped_led : Leads f m (call.pick wish ∷ call.build m.picked ∷ call.drop_job m.picked ∷ [])
+        (replies.accepted ∷ replies.no_memory ∷ replies.accepted ∷ []) (record m { picked = m.picked + 1 })
     dropped_led =
         let it = picks m wish none in (
           leads.done m (call.pick wish),
-          replies.accepted,
           (none, refl, refl),
-          subst (λ (c : Core). Leads f c (call.drop_job m.picked ∷ []) (record m { picked = m.picked + 1 })) (sym it.1)
-              (subst (Leads f (with_picked m it.0) (call.drop_job m.picked ∷ [])) (picked_gone m numbered it.0)
-              (one (with_picked m it.0) (call.drop_job m.picked) tt (picked_drops m numbered it.0))),
+          (
+            leads.done m (call.pick wish),
+            refl,
+            subst (λ (c : Core). Leads f c (call.drop_job m.picked ∷ []) (replies.accepted ∷ []) (record m { picked = m.picked + 1 })) (sym it.1)
+                (subst (Leads f (with_picked m it.0) (call.drop_job m.picked ∷ []) (replies.accepted ∷ [])) (picked_gone m numbered it.0)
+                (one (with_picked m it.0) (call.drop_job m.picked) tt (picked_drops m numbered it.0))),
+          ),
         )

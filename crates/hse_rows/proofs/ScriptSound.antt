@@ -20,6 +20,7 @@ use Rattle.hse_rows.proofs.CoreGoes.{failing_keeps}
 use Rattle.hse_rows.proofs.CoreLimits.{failing_within, step_keeps_limits}
 use Rattle.hse_rows.proofs.StandLemmas.{opened_stands, step_stands}
 use Rattle.hse_rows.proofs.CoreKeepsRecords.{life_recorded, failing_is_recorded, other_records}
+use Rattle.hse_rows.proofs.JobLemmas.{numbered_below}
 use Rattle.hse_rows.proofs.LineSteps.{step_calls}
 
 -- ---- calls
@@ -49,11 +50,13 @@ module _ (since : Stored) (found : Found) (sound : LoadsSound found) where
     stands = step_stands found old new c answer (loads_state found sound) good.stands step;
   }
 
-  calls_sound : (old new : Core) (calls : List Call) → AllByRecursion (λ one. one ≢ call.reopen) calls → IsSound since old → Leads found old calls new
-      → IsSound since new
-  calls_sound old new [] apart good led = same_sound since old new led good
-  calls_sound old new (c ∷ calls) apart good led =
-      calls_sound led.0 new calls apart.1 (call_sound old led.0 c led.1 apart.0 good led.2) led.3
+  calls_sound : (old new : Core) (calls : List Call) (answers : List (Answer ℕ)) → AllByRecursion (λ one. one ≢ call.reopen) calls → IsSound since old
+      → Leads found old calls answers new → IsSound since new
+  calls_sound old new [] [] apart good led = same_sound since old new led good
+  calls_sound old new [] (answer ∷ answers) apart good led = absurd led
+  calls_sound old new (c ∷ calls) [] apart good led = absurd led
+  calls_sound old new (c ∷ calls) (answer ∷ answers) apart good led =
+      calls_sound led.0 new calls answers apart.1 (call_sound old led.0 c answer apart.0 good led.1) led.2
 
 -- ---- reopenings
 
@@ -105,8 +108,8 @@ nothing_loaded since (has_version version) line answer other = refl
 other_sound : (since : Stored) (found : Found) (old new : Script) (line : Line) (answer : Answer (List ℕ)) → IsOtherLine line → LoadsSound found → IsSound since old.core
     → Step found old line answer new → IsSound since new.core
 other_sound since found old new line answer other sound good step =
-    let led = step_calls found old good.limits.jobs.ids new line answer step in
-    calls_sound since found sound old.core new.core led.0 (led.2 (λ is. subst IsOtherLine is other)) good led.1
+    let led = step_calls found old (numbered_below old.core.jobs old.core.picked good.limits.jobs.ids) new line answer step in
+    calls_sound since found sound old.core new.core led.0 led.1.0 (led.2 (λ is. subst IsOtherLine is other)) good led.1.1
 
 pub line_sound : (since : Stored) (found : Found) (old new : Script) (line : Line) (answer : Answer (List ℕ)) → LoadsSound found → IsSound since old.core
     → Step found old line answer new → IsSound (stored_by since found line answer) new.core

@@ -1,6 +1,6 @@
 -- The core of the snapshot machine: its state, and what is read off it.
-use Rattle.std.specs.Prelude.{ℕ, ◌+◌, ◌-◌, ◌^◌, ◌<◌, ◌==◌, min, not, Bool, false, List, [], ◌∷◌, ◌++◌, sum_by, Option, Some, None}
-use Rattle.std.specs.List.{filter, AllByRecursion}
+use Rattle.std.specs.Prelude.{ℕ, ◌+◌, ◌-◌, ◌^◌, ◌==◌, min, not, Bool, false, List, [], ◌∷◌, ◌++◌, sum_by, Option, Some, None}
+use Rattle.std.specs.List.{filter}
 use Rattle.hse_rows.specs.declared.store.Mode.{Mode}
 use Rattle.hse_rows.specs.declared.change.Change.{Change}
 use Rattle.hse_rows.specs.declared.write.Write.{Write}
@@ -94,10 +94,6 @@ number_of m = timeline.number_of m.timeline
 -- the live transactions
 abbrev pub live : Core → List Transaction
 live m = filter (λ transaction. is_active transaction.state) m.timeline.begun
-
--- the id of each job is less than the count of picks
-abbrev pub JobsAreNumbered : Core → Type 0
-JobsAreNumbered m = AllByRecursion (λ job. job.id < m.picked) m.jobs
 
 -- what a segment has room for, and what the active one has left
 abbrev pub whole_room : Core → ℕ

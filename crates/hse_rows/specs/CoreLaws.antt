@@ -1,5 +1,5 @@
 -- Laws of the core, each the clause of a function of `src/core_laws.rt`.
-use Rattle.std.specs.Prelude.{◌≡◌, ◌≢◌, ℕ, List, [], ◌∷◌}
+use Rattle.std.specs.Prelude.{◌≡◌, ◌≢◌, ℕ, ◌+◌, ◌-◌, ◌≤◌, List, [], ◌∷◌, length, sum_by}
 use Rattle.std.specs.List.{AllByRecursion}
 use Rattle.hse_rows.specs.State.{IsState}
 use Rattle.hse_rows.specs.Rooted.{AreRooted}
@@ -7,10 +7,12 @@ use Rattle.hse_rows.specs.Timeline.{Timeline, Goes}
 use Rattle.hse_rows.specs.Timeline as timeline
 use Rattle.hse_rows.specs.Isolation.{IsIsolated, AreIsolated}
 use Rattle.hse_rows.specs.Sources.{IsSourced}
+use Rattle.hse_rows.specs.Layout.{Layout, NewSet, sets_at}
+use Rattle.hse_rows.specs.Job.{Work, ingesting, on_run, blocks_of, needed_blocks, taken_over_blocks, freed_blocks, sets_of_run, installed}
 use Rattle.hse_rows.specs.Turn.{TurnWish, sync, freeze, create, drop}
 use Rattle.hse_rows.specs.Replies.{Refusal, Answer, ok, refused, no_memory, device_fault, canceled_held, canceled_since}
 use Rattle.hse_rows.specs.Calls.{Call, begin, write_by, get, commit, abort, list_stores, tree, info, take_place, give_place, pick, build, drop_job, next_job, take, take_install, write_turn, end_turn, reopen}
-use Rattle.hse_rows.specs.Core.{Core, Stored, life}
+use Rattle.hse_rows.specs.Core.{Core, Stored, blocks_in, life, layout_but}
 use Rattle.hse_rows.specs.Recorded.{IsRecorded, IsInOrder}
 use Rattle.hse_rows.specs.Limits.{IsWithinLimits}
 use Rattle.hse_rows.specs.CoreStep.{Found, loads, breaks_off, has_version, Step, answer_of, led_to}
@@ -185,6 +187,28 @@ RunsKeepLimits =
     (stored : Stored) (entries : List Entry) (new : Core)
     → IsWithinLimits (life stored) → AllByRecursion (λ entry. LoadsWithinLimits entry.found) entries
     → Run (life stored) entries new → IsWithinLimits new
+
+-- ---- slots
+
+-- a job's run is within the sets of its node, and its new sets take over at most the run's blocks
+abbrev pub WorkFits : Layout → Work → List NewSet → Type 0
+WorkFits layout ingesting sets = Unit {0}
+WorkFits layout (on_run run) sets =
+    (run.older + run.len ≤ length (sets_at layout run.store run.path))
+    × (taken_over_blocks (on_run run) sets ≤ sum_by blocks_of (sets_of_run layout run))
+
+-- Where the blocks of the layout and those that an install writes are used slots, those after it are, beside those it frees.
+abbrev pub InstallsCountSlots : Type 0
+InstallsCountSlots =
+    (layout : Layout) (work : Work) (sets : List NewSet) (used : ℕ)
+    → WorkFits layout work sets → blocks_in layout + needed_blocks work sets ≤ used
+    → blocks_in (installed layout work sets) + freed_blocks layout work sets ≤ used
+
+-- And so where the sets of a store leave.
+abbrev pub DropsCountSlots : Type 0
+DropsCountSlots =
+    (layout : Layout) (id used : ℕ) → blocks_in layout ≤ used
+    → blocks_in (layout_but layout id) + (blocks_in layout - blocks_in (layout_but layout id)) ≤ used
 
 -- ---- what log and manifest keep
 

@@ -1,7 +1,8 @@
 -- Jobs: what each is about, what it makes of the sets of a tree, and how far it is.
-use Rattle.std.specs.Prelude.{ℕ, ◌+◌, ◌-◌, ◌==◌, Bool, true, false, ◌&&◌, if◌then◌else◌, List, [], map, sum_by, Option}
-use Rattle.std.specs.List.{find}
+use Rattle.std.specs.Prelude.{◌≡◌, ℕ, ◌+◌, ◌-◌, ◌==◌, Bool, true, false, ◌&&◌, if◌then◌else◌, List, [], ◌∷◌, map, sum_by, Option}
+use Rattle.std.specs.List.{AllByRecursion, find}
 use Rattle.hse_rows.specs.NormalForm.{same}
+use Rattle.hse_rows.specs.Rising.{Rise}
 use Rattle.hse_rows.specs.State.{Store}
 use Rattle.hse_rows.specs.Log.{Numbered}
 use Rattle.hse_rows.specs.Layout.{RowsInBlocks, Layout, sets_at, with_sets, run_in, in_place_of_run, NewSet, new_sets, in_fronts, ingest_sets, compaction_of, key_compaction_of, spill_of}
@@ -50,6 +51,10 @@ pub record Job : Type 0 where
   -- what was built
   pub sets : List NewSet
 
+-- the jobs' ids differ, in the order picked, and are less than the count of picks
+abbrev pub AreNumbered : List Job → ℕ → Type 0
+AreNumbered jobs count = Rise (λ job. job.id) 0 count jobs
+
 abbrev pub is_picked : JobState → Bool
 is_picked picked = true
 is_picked built = false
@@ -95,6 +100,16 @@ claims store path (on_run run) = (run.store == store) && same run.path path
 -- the job whose run is of this node
 abbrev pub claimer : List Job → ℕ → List ℕ → Option Job
 claimer jobs store path = find (λ job. claims store path job.work) jobs
+
+-- Of a job and one picked later at most one is an ingest, and they are on different nodes.
+abbrev pub AreApart : Work → Work → Type 0
+AreApart earlier ingesting = is_ingest earlier ≡ false
+AreApart earlier (on_run run) = claims run.store run.path earlier ≡ false
+
+-- and so are any two of these
+abbrev pub ClaimApart : List Job → Type 0
+ClaimApart [] = Unit {0}
+ClaimApart (job ∷ jobs) = AllByRecursion (λ later. AreApart job.work later.work) jobs × ClaimApart jobs
 
 abbrev pub is_on_store : ℕ → Work → Bool
 is_on_store store ingesting = false

@@ -6,6 +6,7 @@ pub mod Sorted
 pub mod NormalForm
 pub mod Charge
 pub mod State
+pub mod Rising
 pub mod Reach
 pub mod Holding
 pub mod LastEffect

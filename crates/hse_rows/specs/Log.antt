@@ -34,9 +34,13 @@ most_frozen = 3
 abbrev pub IsWithinLayers : LogState → Type 0
 IsWithinLayers log = length log.frozen ≤ most_frozen
 
--- what the active layer takes of its segment
+-- what a layer's commits take of its segment
+abbrev pub charge_of_commits : List Numbered → ℕ
+charge_of_commits commits = sum_by (λ commit. charge_of commit.writes) commits
+
+-- and those of the active layer
 abbrev pub charge_of_active : LogState → ℕ
-charge_of_active log = sum_by (λ commit. charge_of commit.writes) log.active
+charge_of_active log = charge_of_commits log.active
 
 -- what a segment of this size has room for
 abbrev pub room_of : ℕ → ℕ

@@ -1,6 +1,7 @@
 -- What the log and the manifest have of a history: the commits, and the numbers of the creations and drops.
 use Rattle.std.specs.Prelude.{◌≡◌, ℕ, ◌+◌, ◌<◌, ◌≤◌, nat_lt, Bool, true, false, List, [], ◌∷◌, ◌++◌, Option}
 use Rattle.std.specs.List.{AllByRecursion, filter}
+use Rattle.hse_rows.specs.Rising.{Rise}
 use Rattle.hse_rows.specs.State.{State}
 use Rattle.hse_rows.specs.History.{Event, commits, creates, drops, last_number}
 use Rattle.hse_rows.specs.Log.{Numbered, Frozen, LogState}
@@ -30,11 +31,21 @@ taken_in number (drops id ∷ events) = number ∷ taken_in (number + 1) events
 abbrev pub CommitsUpTo : ℕ → List Numbered → Type 0
 CommitsUpTo number these = AllByRecursion (λ commit. commit.number ≤ number) these
 
--- frozen layers, newest first, from the horizon up to this number
+-- these have rising numbers above the one and up to the other
+abbrev pub CommitsBetween : ℕ → ℕ → List Numbered → Type 0
+CommitsBetween low high these = Rise (λ commit. commit.number) (low + 1) (high + 1) these
+
+-- the last number of the newest frozen layer, or the horizon
+abbrev pub last_frozen : ℕ → List Frozen → ℕ
+last_frozen horizon [] = horizon
+last_frozen horizon (layer ∷ layers) = layer.last
+
+-- Frozen layers, newest first, from the horizon up to this number. The commits of each are above the next older one.
 abbrev pub AreLayers : ℕ → ℕ → List Frozen → Type 0
 AreLayers horizon last [] = horizon ≤ last
 AreLayers horizon last (layer ∷ layers) =
-    (layer.last ≤ last) × CommitsUpTo layer.last layer.commits × AreLayers horizon layer.last layers
+    (layer.last ≤ last) × CommitsBetween (last_frozen horizon layers) layer.last layer.commits
+    × AreLayers horizon layer.last layers
 
 -- their commits, in order
 abbrev pub frozen_commits : List Frozen → List Numbered
@@ -51,8 +62,10 @@ pub record Records (before : List Numbered) (log : LogState) (base : State) (eve
   pub gone : List Numbered
   pub all : gone ++ commits_of log ≡ before ++ commits_in (base.number + 1) events
   pub below : CommitsUpTo log.horizon gone
+  -- and all that stand in the log
+  pub above : AllByRecursion (λ commit. log.horizon < commit.number) (commits_of log)
   pub layers : AreLayers log.horizon (last_number base events) log.frozen
-  pub active : CommitsUpTo (last_number base events) log.active
+  pub active : CommitsBetween (last_frozen log.horizon log.frozen) (last_number base events) log.active
 
 -- ---- what the manifest keeps of them
 
@@ -109,5 +122,5 @@ pub record IsRecorded (since : Stored) (m : Core) : Type 0 where
 -- A device stores layers and numbers in order.
 pub record IsInOrder (stored : Stored) : Type 0 where
   pub layers : AreLayers stored.log.horizon stored.base.number stored.log.frozen
-  pub active : CommitsUpTo stored.base.number stored.log.active
+  pub active : CommitsBetween (last_frozen stored.log.horizon stored.log.frozen) stored.base.number stored.log.active
   pub taken : AllByRecursion (λ number. stored.log.horizon < number) stored.manifest.taken

@@ -1,8 +1,8 @@
 -- The calls of the core that a line is made of, one after another.
-use Rattle.std.specs.Prelude.{◌≡◌, ℕ, List, [], ◌∷◌}
+use Rattle.std.specs.Prelude.{◌≡◌, ℕ, Bool, true, false, if◌then◌else◌, List, [], ◌∷◌}
 use Rattle.hse_rows.specs.Timeline.{for_some}
 use Rattle.hse_rows.specs.Job.{JobWish}
-use Rattle.hse_rows.specs.Replies.{Answer}
+use Rattle.hse_rows.specs.Replies.{Answer, refused, no_memory, device_fault}
 use Rattle.hse_rows.specs.Calls.{outside, inside, Call}
 use Rattle.hse_rows.specs.Calls as call
 use Rattle.hse_rows.specs.Core.{Core}
@@ -10,11 +10,37 @@ use Rattle.hse_rows.specs.CoreStep.{Found, Step}
 use Rattle.hse_rows.specs.Schedule.{next_wish}
 use Rattle.hse_rows.specs.ScriptLines.{nobody, someone, Line, begin, write_by, get, commit, abort, list_stores, tree, info, open_cursor, seek, seek_range, read, update, close_cursor, pick, build, drop_job, next_job, take, take_install, write_turn, end_turn, turn, job, auto, reopen, silent, bad}
 use Rattle.hse_rows.specs.Script.{Script, order_of, job_named}
+use Rattle.hse_rows.specs.ScriptNames.{answer_named}
 
--- From old these calls, each answered as it may be, lead to new.
-abbrev pub Leads : Found → Core → List Call → Core → Type 0
-Leads found old [] new = new ≡ old
-Leads found old (first ∷ calls) new = (mid : Core) × (answer : Answer ℕ) × Step found old first answer mid × Leads found mid calls new
+-- From old these calls with these answers, each as it may be, lead to new.
+abbrev pub Leads : Found → Core → List Call → List (Answer ℕ) → Core → Type 0
+Leads found old [] [] new = new ≡ old
+Leads found old [] (answer ∷ answers) new = ⊥
+Leads found old (first ∷ calls) [] new = ⊥
+Leads found old (first ∷ calls) (answer ∷ answers) new =
+    (mid : Core) × Step found old first answer mid × Leads found mid calls answers new
+
+-- a call that was done
+abbrev pub is_done : Answer ℕ → Bool
+is_done (refused reason) = false
+is_done no_memory = false
+is_done device_fault = false
+is_done answer = true
+
+-- the answer of the first call that was not done, or else of the last
+abbrev pub told_by : Answer ℕ → List (Answer ℕ) → Answer ℕ
+told_by answer [] = answer
+told_by answer (next ∷ answers) = if is_done answer then told_by next answers else answer
+
+-- A line of calls is answered that, with names.
+abbrev pub Tells : Script → List (Answer ℕ) → Answer (List ℕ) → Type 0
+Tells s [] answer = Unit {0}
+Tells s (first ∷ answers) answer = answer ≡ answer_named s (told_by first answers)
+
+-- From old these calls lead to new, and tell this answer.
+abbrev pub LeadsAnswered : Found → Script → List Call → Core → Answer (List ℕ) → Type 0
+LeadsAnswered found old calls new answer =
+    (answers : List (Answer ℕ)) × Leads found old.core calls answers new × Tells old answers answer
 
 -- the phases of a turn that this call takes
 abbrev pub turn_calls : Call → List Call

@@ -5,11 +5,12 @@ use Rattle.hse_rows.specs.declared.store.Mode.{Mode}
 use Rattle.hse_rows.specs.State.{Store, IsState, store_named}
 use Rattle.hse_rows.specs.Isolation.{IsIsolated, AreIsolated}
 use Rattle.hse_rows.specs.Moves as move
+use Rattle.hse_rows.specs.Job.{AreNumbered}
 use Rattle.hse_rows.specs.Turn.{sync, create, drop, home}
 use Rattle.hse_rows.specs.Replies.{Refusal, Answer, ok, refused, no_memory, device_fault}
 use Rattle.hse_rows.specs.Calls.{Call}
 use Rattle.hse_rows.specs.Calls as call
-use Rattle.hse_rows.specs.Core.{Core, JobsAreNumbered, Stored, life, blocks_in, now, number_of, with_move, layout_but}
+use Rattle.hse_rows.specs.Core.{Core, Stored, life, blocks_in, now, number_of, with_move, layout_but}
 use Rattle.hse_rows.specs.ManifestEntry.{creation_entry, drop_entry, entered}
 use Rattle.hse_rows.specs.CoreStep.{Found, loads, breaks_off, has_version}
 use Rattle.hse_rows.specs.CoreLaws.{TakesEvent, Stands}
@@ -20,7 +21,7 @@ use Rattle.hse_rows.specs.Script.{Script, begins_with}
 use Rattle.hse_rows.specs.ScriptRefusal.{refusal}
 use Rattle.hse_rows.specs.ScriptDone.{turned, turn_failed, turn_reply, once_picked}
 use Rattle.hse_rows.specs.ScriptStep.{Step, answer_of, led_to}
-use Rattle.hse_rows.specs.ScriptCalls.{Leads, calls_of}
+use Rattle.hse_rows.specs.ScriptCalls.{LeadsAnswered, calls_of}
 
 -- ---- runs
 
@@ -77,20 +78,21 @@ DropsAreOneStep =
 
 -- ---- lines as calls of the core
 
--- Each step of the script machine leads the core on by calls, each answered as it may be. No line but a reopening reopens.
+-- Each step of the script machine leads the core on by calls, each answered as it may be. What they tell is the line's
+-- answer. No line but a reopening reopens.
 abbrev pub LinesAreCalls : Type 0
 LinesAreCalls =
     (found : Found) (old new : Script) (line : Line) (answer : Answer (List ℕ))
-    → JobsAreNumbered old.core → Step found old line answer new
-    → (calls : List Call) × Leads found old.core calls new.core
+    → AreNumbered old.core.jobs old.core.picked → Step found old line answer new
+    → (calls : List Call) × LeadsAnswered found old calls new.core answer
     × (line ≢ reopen → AllByRecursion (λ one. one ≢ call.reopen) calls)
 
 -- And those of a line that nothing refuses are its phases in a row.
 abbrev pub LinesAreTheirPhases : Type 0
 LinesAreTheirPhases =
     (found : Found) (old new : Script) (line : Line) (answer : Answer (List ℕ))
-    → JobsAreNumbered old.core → refusal old line ≡ None → answer ≢ no_memory → Step found old line answer new
-    → Leads found old.core (calls_of old line) new.core
+    → AreNumbered old.core.jobs old.core.picked → refusal old line ≡ None → answer ≢ no_memory → Step found old line answer new
+    → LeadsAnswered found old (calls_of old line) new.core answer
 
 -- ---- answers
 

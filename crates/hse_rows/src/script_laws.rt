@@ -16,14 +16,15 @@ pub fn turns_are_one_step()
 {}
 
 /// A line is a run of calls of the core, each answered as it may be, and no line but a reopening
-/// reopens. The calls of a line that nothing refuses are its phases in a row.
+/// reopens. The calls of a line that nothing refuses are its phases in a row. The answer of a line
+/// that has calls is the answer of the first that was not done, or else of the last, with names.
 pub fn lines_are_calls()
     ensures calls { LinesAreCalls }
     ensures phases { LinesAreTheirPhases }
 {}
 
-/// An answer of the script machine leads one way, but that want of memory may come before or after a
-/// job was picked. A refusal and want of memory change nothing, but that an end gives a turn back
+/// An answer of the script machine leads one way, but that want of memory may come before or after
+/// a job was picked. A refusal and want of memory change nothing, but that an end gives a turn back
 /// whose device calls failed, and that a job may have been picked and is gone again.
 pub fn lines_lead_one_way()
     ensures one_way { LinesLeadOneWay }
@@ -44,15 +45,15 @@ pub fn other_lines_keep_timelines()
     ensures names { LinesKeepNames }
 {}
 
-/// In every script the core keeps within the limits, with what is safe between the base and the last
-/// number, log and manifest have what happened in the life, and the timeline stands.
+/// In every script the core keeps within the limits, with what is safe between the base and the
+/// last number, log and manifest have what happened in the life, and the timeline stands.
 pub fn scripts_are_sound()
     ensures lines { LinesKeepSound }
     ensures scripts { ScriptsAreSound }
 {}
 
-/// Snapshot isolation. In every script no two transactions that each began before the other's commit
-/// both committed overlapping writes.
+/// Snapshot isolation. In every script no two transactions that each began before the other's
+/// commit both committed overlapping writes.
 pub fn scripts_are_isolated()
     ensures lines { LinesKeepIsolated }
     ensures isolated { ScriptsAreIsolated }
