@@ -6,10 +6,10 @@ use Rattle.std.proofs.Math.Nat.{div-one}
 use Rattle.std.specs.Cmp.{second_so}
 use Rattle.std.specs.List.{AllByRecursion, flat_map}
 use Rattle.hse_rows.specs.declared.row.Row.{Row}
-use Rattle.hse_rows.specs.NormalForm.{rank}
-use Rattle.hse_rows.specs.Reach.{reaches}
-use Rattle.hse_rows.specs.Routing.{hash_of, routing_bytes}
-use Rattle.hse_rows.specs.Meaning.{is_own, is_covering, newer, own_at, greater, covered_at}
+use Rattle.hse_rows.specs.writes.NormalForm.{rank}
+use Rattle.hse_rows.specs.writes.Reach.{reaches}
+use Rattle.hse_rows.specs.rows.Routing.{hash_of, routing_bytes}
+use Rattle.hse_rows.specs.rows.Meaning.{is_own, is_covering, newer, own_at, greater, covered_at}
 use Rattle.row_laws.specs.Sources.{all_rows, IsAbove, Falls}
 use Rattle.row_laws.specs.Next.{row_lasting, lasting_at}
 use Rattle.cn_tree.specs.Path.{digits_by, path_of, depths}

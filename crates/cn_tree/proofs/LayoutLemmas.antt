@@ -7,10 +7,10 @@ use Rattle.std.specs.Cmp.{nat_cmp_total}
 use Rattle.std.proofs.lemmas.Cmp.{tied_itself}
 use Rattle.std.specs.Cmp.Lexicographic.{slice_cmp}
 use Rattle.std.specs.List.{filter, find}
-use Rattle.hse_rows.specs.Change.{covers}
-use Rattle.hse_rows.specs.NormalForm.{same}
-use Rattle.hse_rows.specs.Sorted.{placed}
-use Rattle.hse_rows.specs.Layout.{RowsInBlocks, Node, node_cmp, is_at as layout_is_at, sets_in as layout_sets_in, sets_at as layout_sets_at, with_sets as layout_with_sets, has_children as layout_has_children}
+use Rattle.hse_rows.specs.writes.Change.{covers}
+use Rattle.hse_rows.specs.writes.NormalForm.{same}
+use Rattle.hse_rows.specs.writes.Sorted.{placed}
+use Rattle.hse_rows.specs.rows.Layout.{RowsInBlocks, Node, node_cmp, is_at as layout_is_at, sets_in as layout_sets_in, sets_at as layout_sets_at, with_sets as layout_with_sets, has_children as layout_has_children}
 use Rattle.cn_tree.specs.Tree.{RowsOfSet, TreeNode, path_cmp, is_at, sets_in, sets_at, node_of, with_sets, has_children}
 use Rattle.cn_tree.specs.Layouts.{node_in, layout_of}
 

@@ -7,7 +7,7 @@ use Rattle.std.specs.Cmp.{IsTotalOrder, on_total}
 use Rattle.std.specs.Cmp.Lexicographic.{nat_list_cmp_total, texts_ties}
 use Rattle.std.specs.List.{filter, find, insert}
 use Rattle.std.specs.List.Sorted.{IsStrictlySortedBy, IsBinarySearchResult}
-use Rattle.hse_rows.specs.Sorted.{placed}
+use Rattle.hse_rows.specs.writes.Sorted.{placed}
 use Rattle.cn_tree.specs.Tree.{RowsOfSet, TreeNode, path_cmp, HasSets, AreNodes, is_at, sets_in, sets_at, node_of, with_sets}
 use Rattle.sorted_lists.specs.Places.{is_apart, without, IsPlace}
 use Rattle.sorted_lists.specs.laws.Lists.{each-filter, filter-alike}

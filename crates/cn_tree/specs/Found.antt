@@ -1,7 +1,7 @@
 -- What a search along a path finds.
 use Rattle.std.specs.Prelude.{ℕ, List, [], ◌∷◌, Option, Some, None}
 use Rattle.hse_rows.specs.declared.row.Row.{Row}
-use Rattle.hse_rows.specs.Meaning.{own_at, covered_at}
+use Rattle.hse_rows.specs.rows.Meaning.{own_at, covered_at}
 use Rattle.row_laws.specs.Next.{row_lasting}
 
 -- What a set says of a key: nothing, or its row, or that a newer prefix delete covers the key.

@@ -1,6 +1,6 @@
 -- A tree is the layout of one store, where each set is told in how many blocks it stands.
 use Rattle.std.specs.Prelude.{◌≡◌, ℕ, List, map}
-use Rattle.hse_rows.specs.Layout.{RowsInBlocks, Node, Layout, sets_at as layout_sets_at, with_sets as layout_with_sets, has_children as layout_has_children}
+use Rattle.hse_rows.specs.rows.Layout.{RowsInBlocks, Node, Layout, sets_at as layout_sets_at, with_sets as layout_with_sets, has_children as layout_has_children}
 use Rattle.cn_tree.specs.Tree.{RowsOfSet, TreeNode, sets_at, with_sets, has_children}
 
 abbrev pub node_in : ℕ → (RowsOfSet → RowsInBlocks) → TreeNode → Node

@@ -1,7 +1,7 @@
 -- Paths of nodes, and the path that a key is routed along.
 use Rattle.std.specs.Prelude.{ℕ, ◌<◌, ◌≤◌, ◌/◌, ◌%◌, List, [], ◌∷◌, length}
 use Rattle.std.specs.List.{AllByRecursion}
-use Rattle.hse_rows.specs.Routing.{child_of}
+use Rattle.hse_rows.specs.rows.Routing.{child_of}
 
 -- the digits from the root to a node
 pub record IsPath (path : List ℕ) : Type 0 where

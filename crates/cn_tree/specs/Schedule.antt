@@ -1,9 +1,9 @@
 -- Which run of a tree's sets is to be compacted or spilled next.
 use Rattle.std.specs.Prelude.{ℕ, nat_le, nat_lt, Bool, ◌&&◌, not, if◌then◌else◌, List, length, sum_by, Option, Some, None}
 use Rattle.std.specs.List.{find, list_any}
-use Rattle.hse_rows.specs.NormalForm.{same}
-use Rattle.hse_rows.specs.Routing.{greatest_depth}
-use Rattle.hse_rows.specs.Schedule.{least_sets, least_rows}
+use Rattle.hse_rows.specs.writes.NormalForm.{same}
+use Rattle.hse_rows.specs.rows.Routing.{greatest_depth}
+use Rattle.hse_rows.specs.rows.Schedule.{least_sets, least_rows}
 use Rattle.cn_tree.specs.declared.schedule.Pick.{Pick}
 use Rattle.cn_tree.specs.declared.schedule.PickKind.{PickKind}
 use Rattle.cn_tree.specs.declared.schedule.PickKind.TheVariants.{Key, KeyValue, Spill}

@@ -6,9 +6,9 @@ use Rattle.std.specs.declared.cmp.Ordering.{Ordering}
 use Rattle.std.specs.Ordering.{nat_cmp, on}
 use Rattle.std.specs.Cmp.Lexicographic.{slice_cmp}
 use Rattle.hse_rows.specs.declared.row.Row.{Row}
-use Rattle.hse_rows.specs.Change.{covers}
-use Rattle.hse_rows.specs.Sorted.{placed}
-use Rattle.hse_rows.specs.NormalForm.{same}
+use Rattle.hse_rows.specs.writes.Change.{covers}
+use Rattle.hse_rows.specs.writes.Sorted.{placed}
+use Rattle.hse_rows.specs.writes.NormalForm.{same}
 use Rattle.cn_tree.specs.Path.{path_of, depths}
 
 -- a set, as its rows in order

@@ -1,8 +1,8 @@
 //! What sets say of a key, nearest set first.
 ghost use Rattle.std.specs.Prelude.{◌≡◌, map, Some};
 ghost use Rattle.std.specs.Option.{option_map};
-ghost use Rattle.hse_rows.specs.Meaning.{own_at, covered_at};
-ghost use Rattle.hse_rows.specs.RowSets.{row_by};
+ghost use Rattle.hse_rows.specs.rows.Meaning.{own_at, covered_at};
+ghost use Rattle.hse_rows.specs.rows.RowSets.{row_by};
 ghost use Rattle.cn_tree.specs.Found.{row_said, first_row};
 
 use hse_rows::{RowRef, RowSet};

@@ -2,7 +2,7 @@
 ghost use Rattle.std.specs.Prelude.{◌≡◌, [], ◌∷◌, length, map, OnOk, IfOk};
 ghost use Rattle.std.specs.List.{filter};
 ghost use Rattle.std.specs.Prelude.{not};
-ghost use Rattle.hse_rows.specs.Sorted.{placed};
+ghost use Rattle.hse_rows.specs.writes.Sorted.{placed};
 ghost use Rattle.std.specs.List.Sorted.{IsBinarySearchResult, IsSearchInRange, IsStrictlySortedBy};
 ghost use Rattle.cn_tree.specs.Tree.{AreNodes, path_cmp, node_of, is_at, sets_at, with_sets};
 

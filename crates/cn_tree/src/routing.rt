@@ -1,6 +1,6 @@
 //! Which nodes a key is routed to.
 ghost use Rattle.std.specs.Prelude.{◌≡◌};
-ghost use Rattle.hse_rows.specs.Routing.{hash_of, routing_bytes};
+ghost use Rattle.hse_rows.specs.rows.Routing.{hash_of, routing_bytes};
 ghost use Rattle.cn_tree.specs.Path.{digits_by};
 
 /// The number that routes a key: of its first bytes, as many as the store's prefixes have at most, or

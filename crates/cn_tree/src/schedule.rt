@@ -1,7 +1,7 @@
 //! Which run of a tree's sets comes next.
 ghost use Rattle.std.specs.Prelude.{◌≡◌, ◌&&◌, nat_le, not, length as number_of, map, Some};
-ghost use Rattle.hse_rows.specs.NormalForm.{same};
-ghost use Rattle.hse_rows.specs.Change.{covers};
+ghost use Rattle.hse_rows.specs.writes.NormalForm.{same};
+ghost use Rattle.hse_rows.specs.writes.Change.{covers};
 ghost use Rattle.cn_tree.specs.Tree.{has_children};
 ghost use Rattle.cn_tree.specs.Schedule.{is_claimed, waits, rows_in, kind_for, whole_run, next_pick};
 

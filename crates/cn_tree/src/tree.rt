@@ -2,8 +2,8 @@
 ghost use Rattle.std.specs.Prelude.{◌≡◌, ◌<◌, [], ◌∷◌, length as number_of, map, slice_get, Some, Ok, OnOk, IfOk, IfErr};
 ghost use Rattle.std.specs.List.{AllByRecursion};
 ghost use Rattle.std.specs.Option.{option_map};
-ghost use Rattle.hse_rows.specs.Routing.{hash_of, routing_bytes};
-ghost use Rattle.hse_rows.specs.RowSets.{row_by};
+ghost use Rattle.hse_rows.specs.rows.Routing.{hash_of, routing_bytes};
+ghost use Rattle.hse_rows.specs.rows.RowSets.{row_by};
 ghost use Rattle.row_laws.specs.Sources.{all_rows, Falls};
 ghost use Rattle.row_laws.specs.Next.{lasting_at};
 ghost use Rattle.cn_tree.specs.Path.{path_of};

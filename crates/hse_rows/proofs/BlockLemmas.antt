@@ -6,11 +6,11 @@ use Rattle.std.specs.Ordering.{is_lt}
 use Rattle.std.proofs.Common.{◌≡◌, ℕ, zero, suc, ◌+◌, ◌-◌, ◌≤◌, Bool, true, false, not, cond, List, [], ◌∷◌, ◌++◌, length, Some, refl, sym, ◌∙◌, ap, arith}
 use Rattle.std.proofs.Math.Seq.{drop-nil}
 use Rattle.std.proofs.lemmas.List.Sums.{sum_by-append, sum_by-cons, sum_by-take-drop}
-use Rattle.hse_rows.specs.Sorted.{placed}
-use Rattle.hse_rows.specs.Layout.{RowsInBlocks, Node, Layout, NewSet, node_cmp, is_at, sets_at, sets_in, with_sets, in_front, in_fronts, run_in, in_place_of_run}
-use Rattle.hse_rows.specs.Job.{RunKind, keys, values, spill, Run, Work, ingesting, on_run, writes_values, blocks_of, blocks_to_write, needed_blocks, taken_over_blocks, freed_blocks, sets_of_run, with_run, run_installed, installed}
-use Rattle.hse_rows.specs.Core.{blocks_in, layout_but}
-use Rattle.hse_rows.specs.CoreLaws.{WorkFits}
+use Rattle.hse_rows.specs.writes.Sorted.{placed}
+use Rattle.hse_rows.specs.rows.Layout.{RowsInBlocks, Node, Layout, NewSet, node_cmp, is_at, sets_at, sets_in, with_sets, in_front, in_fronts, run_in, in_place_of_run}
+use Rattle.hse_rows.specs.rows.Job.{RunKind, keys, values, spill, Run, Work, ingesting, on_run, writes_values, blocks_of, blocks_to_write, needed_blocks, taken_over_blocks, freed_blocks, sets_of_run, with_run, run_installed, installed}
+use Rattle.hse_rows.specs.machine.Core.{blocks_in, layout_but}
+use Rattle.hse_rows.specs.laws.CoreLaws.{WorkFits}
 
 abbrev set_blocks : List RowsInBlocks → ℕ
 set_blocks sets = sum_by blocks_of sets

@@ -2,17 +2,17 @@
 use Rattle.std.proofs.Common.{ℕ, Bool, true, false, List, []}
 use Rattle.hse_rows.specs.declared.store.Mode.{Mode}
 use Rattle.hse_rows.specs.declared.change.Change.TheVariants.{Put, Del}
-use Rattle.hse_rows.specs.State.{Store, State}
-use Rattle.hse_rows.specs.Log.{LogState, Numbered}
-use Rattle.hse_rows.specs.ManifestRoom.{ManifestState}
-use Rattle.hse_rows.specs.Sizes.{Sizes}
-use Rattle.hse_rows.specs.Layout.{Layout}
-use Rattle.hse_rows.specs.Job.{keys, values, spill, Run, ingesting, on_run, built_sets, installed}
-use Rattle.hse_rows.specs.Turn as wish
-use Rattle.hse_rows.specs.Core.{life, Stored}
-use Rattle.hse_rows.specs.Core as core
-use Rattle.hse_rows.specs.ScriptLines.{Who, nobody, Line, write_by, turn}
-use Rattle.hse_rows.specs.Script.{Script, begins_with}
+use Rattle.hse_rows.specs.states.State.{Store, State}
+use Rattle.hse_rows.specs.machine.Log.{LogState, Numbered}
+use Rattle.hse_rows.specs.machine.ManifestRoom.{ManifestState}
+use Rattle.hse_rows.specs.machine.Sizes.{Sizes}
+use Rattle.hse_rows.specs.rows.Layout.{Layout}
+use Rattle.hse_rows.specs.rows.Job.{keys, values, spill, Run, ingesting, on_run, built_sets, installed}
+use Rattle.hse_rows.specs.machine.Turn as wish
+use Rattle.hse_rows.specs.machine.Core.{life, Stored}
+use Rattle.hse_rows.specs.machine.Core as core
+use Rattle.hse_rows.specs.script.ScriptLines.{Who, nobody, Line, write_by, turn}
+use Rattle.hse_rows.specs.script.Script.{Script, begins_with}
 
 abbrev pub outside : Who
 outside = nobody

@@ -3,19 +3,19 @@ use Rattle.std.proofs.Common.{◌≡◌, ℕ, ◌+◌, nat_lt, List, [], ◌∷�
 use Rattle.std.specs.Prelude.{codes}
 use Rattle.hse_rows.specs.declared.store.Mode.TheVariants.{Plain, Tx}
 use Rattle.hse_rows.specs.declared.change.Change.TheVariants.{PDel}
-use Rattle.hse_rows.specs.NormalForm.{normal_form}
-use Rattle.hse_rows.specs.Newest.{newest}
-use Rattle.hse_rows.specs.History.{new_store}
-use Rattle.hse_rows.specs.Log.{Numbered}
-use Rattle.hse_rows.specs.Cursor.{forward}
-use Rattle.hse_rows.specs.Job.{ingest, of_run, keys, values, spill, picked}
-use Rattle.hse_rows.specs.Job as jobs
-use Rattle.hse_rows.specs.Turn.{sync, freeze, create, drop, syncing, freezing, creating, dropping, installing}
-use Rattle.hse_rows.specs.Replies.{accepted, ok, refused, name_used, no_name, ended_by, by_commit, by_abort, no_store, store_mode, key_length, prefix_length, broken, spent, busy, manifest_full, txn_size, log_full, log_busy, store_held, node_busy, no_run, job_state}
-use Rattle.hse_rows.specs.Core.{longest_key, new_manifest}
-use Rattle.hse_rows.specs.ScriptLines.{nobody, someone, begin, write_by, get, commit, abort, open_cursor, update, pick, build, drop_job, take, take_install, write_turn, end_turn, turn, job, reopen}
-use Rattle.hse_rows.specs.Script.{Script}
-use Rattle.hse_rows.specs.ScriptRefusal.{refusal, refuse, edge_refusal}
+use Rattle.hse_rows.specs.writes.NormalForm.{normal_form}
+use Rattle.hse_rows.specs.rows.Newest.{newest}
+use Rattle.hse_rows.specs.states.History.{new_store}
+use Rattle.hse_rows.specs.machine.Log.{Numbered}
+use Rattle.hse_rows.specs.script.Cursor.{forward}
+use Rattle.hse_rows.specs.rows.Job.{ingest, of_run, keys, values, spill, picked}
+use Rattle.hse_rows.specs.rows.Job as jobs
+use Rattle.hse_rows.specs.machine.Turn.{sync, freeze, create, drop, syncing, freezing, creating, dropping, installing}
+use Rattle.hse_rows.specs.machine.Replies.{accepted, ok, refused, name_used, no_name, ended_by, by_commit, by_abort, no_store, store_mode, key_length, prefix_length, broken, spent, busy, manifest_full, txn_size, log_full, log_busy, store_held, node_busy, no_run, job_state}
+use Rattle.hse_rows.specs.machine.Core.{longest_key, new_manifest}
+use Rattle.hse_rows.specs.script.ScriptLines.{nobody, someone, begin, write_by, get, commit, abort, open_cursor, update, pick, build, drop_job, take, take_install, write_turn, end_turn, turn, job, reopen}
+use Rattle.hse_rows.specs.script.Script.{Script}
+use Rattle.hse_rows.specs.script.ScriptRefusal.{refusal, refuse, edge_refusal}
 use Rattle.hse_rows.proofs.CaseLines.{loaded, failed, with_manifest}
 use Rattle.hse_rows.proofs.RowCases.{device, started, led, answers, put_in, put_out, a, b, s, one}
 use Rattle.hse_rows.proofs.PhaseCases.{install_taken}

@@ -5,8 +5,8 @@ use Rattle.std.specs.Cmp.{first_so, second_so}
 use Rattle.std.specs.Cmp.Lexicographic.{bytes_decides}
 use Rattle.std.proofs.lemmas.Bool.{eqb-true, eq-eqb}
 use Rattle.std.proofs.Math.Bool.{true≢false}
-use Rattle.hse_rows.specs.Change.{covers}
-use Rattle.hse_rows.specs.NormalForm.{same}
+use Rattle.hse_rows.specs.writes.Change.{covers}
+use Rattle.hse_rows.specs.writes.NormalForm.{same}
 
 pub same_by_test : (one other : List ℕ) → same one other ≡ true → one ≡ other
 same_by_test one other = (bytes_decides one other).0

@@ -7,9 +7,9 @@ use Rattle.std.specs.List.Sorted.{IsStrictlySortedBy}
 use Rattle.std.proofs.lemmas.List.Sums.{sum_by-cons, sum_by-append, sum_by_more, sum_by-take-le, sum_by-set}
 use Rattle.std.proofs.lemmas.List.Elements.{filter_more}
 use Rattle.hse_rows.specs.declared.write.Write.{Write}
-use Rattle.hse_rows.specs.Charge.{change_bytes, writes_bytes, charge_of}
-use Rattle.hse_rows.specs.NormalForm.{write_cmp, hides, stays, added, lasting, normal_form}
-use Rattle.hse_rows.specs.Sorted.{placed}
+use Rattle.hse_rows.specs.writes.Charge.{change_bytes, writes_bytes, charge_of}
+use Rattle.hse_rows.specs.writes.NormalForm.{write_cmp, hides, stays, added, lasting, normal_form}
+use Rattle.hse_rows.specs.writes.Sorted.{placed}
 use Rattle.hse_rows.proofs.WriteLemmas.{Searched, IsOfKey, set-searched, replaced-key, stays-missing, normal_form-last, normal_form-rising}
 
 module _ {X : Type 0} (f : X → ℕ) where

@@ -1,19 +1,19 @@
 -- Each call has one answer but for want of memory and device faults, and an answer leads one way.
 use Rattle.std.proofs.Common.{◌≡◌, ◌≢◌, ℕ, List, Option, Some, None, refl, sym, ◌∙◌, ap, subst}
 use Rattle.std.specs.FinMap as fin_map
-use Rattle.hse_rows.specs.State.{State, store_named}
-use Rattle.hse_rows.specs.Transaction.{read_of}
-use Rattle.hse_rows.specs.Timeline.{transaction_of, for_some}
-use Rattle.hse_rows.specs.Job.{JobWish, job_of}
-use Rattle.hse_rows.specs.Turn.{Turn, home, taken, ran}
-use Rattle.hse_rows.specs.Replies.{Refusal, busy, not_formed, other_version, Answer, accepted, ok, none, refused, no_memory, device_fault}
-use Rattle.hse_rows.specs.Calls.{outside, inside, Call, write_by, get, commit, tree, build, next_job, write_turn, end_turn, reopen}
-use Rattle.hse_rows.specs.Core.{Core, now}
-use Rattle.hse_rows.specs.CoreRefusal.{refusal, unless_busy}
-use Rattle.hse_rows.specs.CoreDone.{done, refused_to}
-use Rattle.hse_rows.specs.CoreReply.{reply, value_in, found_value, next_reply, end_reply}
-use Rattle.hse_rows.specs.Schedule.{next_wish}
-use Rattle.hse_rows.specs.CoreStep.{Found, loads, breaks_off, has_version, Reopens, Step, opening_answer, refused_or, answer_of, led_to}
+use Rattle.hse_rows.specs.states.State.{State, store_named}
+use Rattle.hse_rows.specs.transactions.Transaction.{read_of}
+use Rattle.hse_rows.specs.transactions.Timeline.{transaction_of, for_some}
+use Rattle.hse_rows.specs.rows.Job.{JobWish, job_of}
+use Rattle.hse_rows.specs.machine.Turn.{Turn, home, taken, ran}
+use Rattle.hse_rows.specs.machine.Replies.{Refusal, busy, not_formed, other_version, Answer, accepted, ok, none, refused, no_memory, device_fault}
+use Rattle.hse_rows.specs.machine.Calls.{outside, inside, Call, write_by, get, commit, tree, build, next_job, write_turn, end_turn, reopen}
+use Rattle.hse_rows.specs.machine.Core.{Core, now}
+use Rattle.hse_rows.specs.machine.CoreRefusal.{refusal, unless_busy}
+use Rattle.hse_rows.specs.machine.CoreDone.{done, refused_to}
+use Rattle.hse_rows.specs.machine.CoreReply.{reply, value_in, found_value, next_reply, end_reply}
+use Rattle.hse_rows.specs.rows.Schedule.{next_wish}
+use Rattle.hse_rows.specs.machine.CoreStep.{Found, loads, breaks_off, has_version, Reopens, Step, opening_answer, refused_or, answer_of, led_to}
 
 reopening_leads : (found : Found) (old new : Core) (answer : Answer ℕ) → Reopens found old answer new → new ≡ led_to found old reopen answer
 reopening_leads (loads stored) old new (ok number) step = step.1

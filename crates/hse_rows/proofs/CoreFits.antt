@@ -3,26 +3,26 @@ use Rattle.std.specs.List.{AllByRecursion}
 use Rattle.std.proofs.Common.{◌≡◌, ℕ, ◌+◌, ◌-◌, ◌<◌, ◌≤◌, nat_lt, nat_le, Bool, false, List, [], ◌∷◌, ◌++◌, length, Option, Some, None, refl, sym, subst, arith}
 use Rattle.hse_rows.specs.declared.change.Change.{Change}
 use Rattle.hse_rows.specs.declared.write.Write.{Write}
-use Rattle.hse_rows.specs.Charge.{charge_of}
-use Rattle.hse_rows.specs.NormalForm.{normal_form}
-use Rattle.hse_rows.specs.State.{Store, State, store_named}
-use Rattle.hse_rows.specs.History.{Event, commits, last_number}
-use Rattle.hse_rows.specs.Transaction.{Transaction, committed, aborted, begins, staged, ended}
-use Rattle.hse_rows.specs.Moves as move
-use Rattle.hse_rows.specs.Timeline.{Timeline, transaction_of, for_some, committing, moved}
-use Rattle.hse_rows.specs.Log.{LogState, logged}
-use Rattle.hse_rows.specs.ManifestRoom.{fits}
-use Rattle.hse_rows.specs.Job.{JobWish, ingest, of_run, Work, ingesting, on_run, Job, AreApart, JobState, is_ingest, claims, job_of, needed_blocks, live_ingest, claimer, first_on, is_picked, is_built}
-use Rattle.hse_rows.specs.Job as job_states
-use Rattle.hse_rows.specs.Turn.{TurnKind, Plan, Turn}
-use Rattle.hse_rows.specs.Replies as replies
-use Rattle.hse_rows.specs.Replies.{Refusal, Answer}
-use Rattle.hse_rows.specs.Calls.{begin, take_place, give_place}
-use Rattle.hse_rows.specs.Core.{Core, live, now, number_of, most_transactions, greatest_number, free_slots, write_to, with_move, most_jobs, most_cursors}
-use Rattle.hse_rows.specs.ManifestEntry.{entered, install_entry}
-use Rattle.hse_rows.specs.CoreRefusal.{refusal, is_tx, is_spent, room_refusal, outside_refusal, commit_refusal, pick_refusal, install_refusal}
-use Rattle.hse_rows.specs.CoreDone.{done, without_job, with_picked, picking, building, log_with, committing_write, with_installing, run_of}
-use Rattle.hse_rows.specs.Limits.{HistoryFits, LogFits, ManifestFits, TransactionsFit, JobsFit, PlanFits, TurnFits, IsWithinLimits}
+use Rattle.hse_rows.specs.writes.Charge.{charge_of}
+use Rattle.hse_rows.specs.writes.NormalForm.{normal_form}
+use Rattle.hse_rows.specs.states.State.{Store, State, store_named}
+use Rattle.hse_rows.specs.states.History.{Event, commits, last_number}
+use Rattle.hse_rows.specs.transactions.Transaction.{Transaction, committed, aborted, begins, staged, ended}
+use Rattle.hse_rows.specs.transactions.Moves as move
+use Rattle.hse_rows.specs.transactions.Timeline.{Timeline, transaction_of, for_some, committing, moved}
+use Rattle.hse_rows.specs.machine.Log.{LogState, logged}
+use Rattle.hse_rows.specs.machine.ManifestRoom.{fits}
+use Rattle.hse_rows.specs.rows.Job.{JobWish, ingest, of_run, Work, ingesting, on_run, Job, AreApart, JobState, is_ingest, claims, job_of, needed_blocks, live_ingest, claimer, first_on, is_picked, is_built}
+use Rattle.hse_rows.specs.rows.Job as job_states
+use Rattle.hse_rows.specs.machine.Turn.{TurnKind, Plan, Turn}
+use Rattle.hse_rows.specs.machine.Replies as replies
+use Rattle.hse_rows.specs.machine.Replies.{Refusal, Answer}
+use Rattle.hse_rows.specs.machine.Calls.{begin, take_place, give_place}
+use Rattle.hse_rows.specs.machine.Core.{Core, live, now, number_of, most_transactions, greatest_number, free_slots, write_to, with_move, most_jobs, most_cursors}
+use Rattle.hse_rows.specs.machine.ManifestEntry.{entered, install_entry}
+use Rattle.hse_rows.specs.machine.CoreRefusal.{refusal, is_tx, is_spent, room_refusal, outside_refusal, commit_refusal, pick_refusal, install_refusal}
+use Rattle.hse_rows.specs.machine.CoreDone.{done, without_job, with_picked, picking, building, log_with, committing_write, with_installing, run_of}
+use Rattle.hse_rows.specs.machine.Limits.{HistoryFits, LogFits, ManifestFits, TransactionsFit, JobsFit, PlanFits, TurnFits, IsWithinLimits}
 use Rattle.hse_rows.proofs.PassLemmas.{passes, change_passes, size_passes, not_busy, not_busy_with, found}
 use Rattle.hse_rows.proofs.JobLemmas.{none_found}
 use Rattle.hse_rows.proofs.FitLemmas.{at_most, below, commit_fits, entered_fits, later_turn, led_fits, logged_fits, one_begins, one_other, or_parts, picked_fits, pushed_number, without_fits}

@@ -3,24 +3,24 @@ use Rattle.std.proofs.Common.{◌≡◌, ℕ, Bool, true, false, not, List, [], 
 use Rattle.hse_rows.specs.declared.store.Mode.TheVariants.{Plain, Tx}
 use Rattle.hse_rows.specs.declared.change.Change.{Change}
 use Rattle.hse_rows.specs.declared.write.Write.{Write}
-use Rattle.hse_rows.specs.NormalForm.{normal_form}
-use Rattle.hse_rows.specs.Charge.{charge_of}
-use Rattle.hse_rows.specs.State.{store_named, store_of}
-use Rattle.hse_rows.specs.Transaction.{TransactionState, active, committed, aborted, Transaction}
-use Rattle.hse_rows.specs.Conflict.{Conflict, conflict_of}
-use Rattle.hse_rows.specs.Moves as move
-use Rattle.hse_rows.specs.Timeline.{snapshot_of, transaction_of, IsActive, for_some, Goes, stays, moves, opens}
-use Rattle.hse_rows.specs.Job.{JobWish, ingest, of_run, job_of}
-use Rattle.hse_rows.specs.Turn.{TurnWish, sync, freeze, create, drop, Plan, settles, enters, removes, installs, Turn, home, taken, ran}
-use Rattle.hse_rows.specs.Replies as replies
-use Rattle.hse_rows.specs.Replies.{Refusal, Answer, no_store}
-use Rattle.hse_rows.specs.Calls.{outside, inside, Call, begin, write_by, get, commit, abort, list_stores, tree, info, take_place, give_place, pick, build, drop_job, next_job, take, take_install, write_turn, end_turn, reopen}
-use Rattle.hse_rows.specs.Core.{Core, Stored, life, left_room, now, write_to, with_move}
-use Rattle.hse_rows.specs.CoreRefusal.{refusal, refuse, is_spent, is_tx, change_refusal, size_refusal, unless_canceled, unless_ended, commit_refusal, outside_refusal, inside_refusal, drop_refusal}
-use Rattle.hse_rows.specs.CoreDone.{done, failing, refused_to, taking, taking_install, picking, building, ending, ending_failed, planned, given_up, log_with, committing_write}
-use Rattle.hse_rows.specs.CoreStep.{Found, loads, breaks_off, has_version, Reopens, Step}
-use Rattle.hse_rows.specs.CoreLaws.{Entry, Run, ChangesTimeline, TakesEvent, ChangesCursors}
-use Rattle.hse_rows.specs.Isolation.{IsIsolated, AreIsolated}
+use Rattle.hse_rows.specs.writes.NormalForm.{normal_form}
+use Rattle.hse_rows.specs.writes.Charge.{charge_of}
+use Rattle.hse_rows.specs.states.State.{store_named, store_of}
+use Rattle.hse_rows.specs.transactions.Transaction.{TransactionState, active, committed, aborted, Transaction}
+use Rattle.hse_rows.specs.transactions.Conflict.{Conflict, conflict_of}
+use Rattle.hse_rows.specs.transactions.Moves as move
+use Rattle.hse_rows.specs.transactions.Timeline.{snapshot_of, transaction_of, IsActive, for_some, Goes, stays, moves, opens}
+use Rattle.hse_rows.specs.rows.Job.{JobWish, ingest, of_run, job_of}
+use Rattle.hse_rows.specs.machine.Turn.{TurnWish, sync, freeze, create, drop, Plan, settles, enters, removes, installs, Turn, home, taken, ran}
+use Rattle.hse_rows.specs.machine.Replies as replies
+use Rattle.hse_rows.specs.machine.Replies.{Refusal, Answer, no_store}
+use Rattle.hse_rows.specs.machine.Calls.{outside, inside, Call, begin, write_by, get, commit, abort, list_stores, tree, info, take_place, give_place, pick, build, drop_job, next_job, take, take_install, write_turn, end_turn, reopen}
+use Rattle.hse_rows.specs.machine.Core.{Core, Stored, life, left_room, now, write_to, with_move}
+use Rattle.hse_rows.specs.machine.CoreRefusal.{refusal, refuse, is_spent, is_tx, change_refusal, size_refusal, unless_canceled, unless_ended, commit_refusal, outside_refusal, inside_refusal, drop_refusal}
+use Rattle.hse_rows.specs.machine.CoreDone.{done, failing, refused_to, taking, taking_install, picking, building, ending, ending_failed, planned, given_up, log_with, committing_write}
+use Rattle.hse_rows.specs.machine.CoreStep.{Found, loads, breaks_off, has_version, Reopens, Step}
+use Rattle.hse_rows.specs.laws.CoreLaws.{Entry, Run, ChangesTimeline, TakesEvent, ChangesCursors}
+use Rattle.hse_rows.specs.transactions.Isolation.{IsIsolated, AreIsolated}
 use Rattle.hse_rows.proofs.PassLemmas.{passes, not_found, change_passes, size_passes, not_canceled, found, found_transaction, is_there, is_plain, is_tx_store, has_store}
 use Rattle.hse_rows.proofs.IsolationLemmas.{opened_isolated, goes_isolated, are_isolated}
 

@@ -1,16 +1,16 @@
 -- Log and manifest have what happened, in every run.
 use Rattle.std.specs.List.{AllByRecursion}
 use Rattle.std.proofs.Common.{◌≡◌, ℕ, ◌+◌, List, [], ◌∷◌, None, refl, sym, ◌∙◌, ap, subst, arith}
-use Rattle.hse_rows.specs.Timeline.{Timeline}
-use Rattle.hse_rows.specs.Replies as replies
-use Rattle.hse_rows.specs.Replies.{Answer}
-use Rattle.hse_rows.specs.Calls.{Call, write_turn, reopen}
-use Rattle.hse_rows.specs.Core.{Core, Stored, life}
-use Rattle.hse_rows.specs.CoreRefusal.{refusal}
-use Rattle.hse_rows.specs.CoreDone.{done, refused_to, failing}
-use Rattle.hse_rows.specs.CoreStep.{Found, loads, breaks_off, has_version, Reopens, Step}
-use Rattle.hse_rows.specs.CoreLaws.{Entry, Run, stored_by, stored_in, LoadsInOrder}
-use Rattle.hse_rows.specs.Recorded.{above, AreLayers, CommitsBetween, last_frozen, commits_of, IsRecorded, IsInOrder}
+use Rattle.hse_rows.specs.transactions.Timeline.{Timeline}
+use Rattle.hse_rows.specs.machine.Replies as replies
+use Rattle.hse_rows.specs.machine.Replies.{Answer}
+use Rattle.hse_rows.specs.machine.Calls.{Call, write_turn, reopen}
+use Rattle.hse_rows.specs.machine.Core.{Core, Stored, life}
+use Rattle.hse_rows.specs.machine.CoreRefusal.{refusal}
+use Rattle.hse_rows.specs.machine.CoreDone.{done, refused_to, failing}
+use Rattle.hse_rows.specs.machine.CoreStep.{Found, loads, breaks_off, has_version, Reopens, Step}
+use Rattle.hse_rows.specs.laws.CoreLaws.{Entry, Run, stored_by, stored_in, LoadsInOrder}
+use Rattle.hse_rows.specs.machine.Recorded.{above, AreLayers, CommitsBetween, last_frozen, commits_of, IsRecorded, IsInOrder}
 use Rattle.hse_rows.proofs.CoreAnswers.{IsOther}
 use Rattle.hse_rows.proofs.CoreGoes.{refused_keeps, failing_keeps}
 use Rattle.hse_rows.proofs.StandLemmas.{done_base}

@@ -1,24 +1,24 @@
 -- Calls that nothing refuses keep within the limits.
 use Rattle.std.specs.List.{AllByRecursion}
 use Rattle.std.proofs.Common.{◌≡◌, inl, inr, ℕ, ◌≤◌, nat_lt, nat_le, Bool, true, false, List, [], ◌∷◌, length, None, is_some, refl, sym, subst, arith}
-use Rattle.hse_rows.specs.State.{store_named}
-use Rattle.hse_rows.specs.History.{creates, drops}
-use Rattle.hse_rows.specs.Moves as move
-use Rattle.hse_rows.specs.Timeline.{snapshot_of, committing, moved}
-use Rattle.hse_rows.specs.ManifestRoom.{ManifestState, fits}
-use Rattle.hse_rows.specs.Job.{live_ingest, first_on, is_picked, is_built}
-use Rattle.hse_rows.specs.Turn.{TurnKind, TurnWish, sync, freeze, create, drop, Plan, settles, enters, removes, installs, TakenTurn, Turn, home, taken, ran}
-use Rattle.hse_rows.specs.Turn as turns
-use Rattle.hse_rows.specs.Replies as replies
-use Rattle.hse_rows.specs.Replies.{Refusal, Answer}
-use Rattle.hse_rows.specs.Calls.{outside, inside, Call, begin, write_by, get, commit, abort, list_stores, tree, info, take_place, give_place, pick, build, drop_job, next_job, take, take_install, write_turn, end_turn, reopen}
-use Rattle.hse_rows.specs.Core.{Core, Stored, life, now, number_of, write_to, with_move, longest_prefix}
-use Rattle.hse_rows.specs.ManifestEntry.{ManifestEntry, entered, creation_entry, drop_entry, install_entry}
-use Rattle.hse_rows.specs.CoreRefusal.{refusal, refuse, is_spent, outside_refusal, inside_refusal, commit_refusal, is_log_busy, install_refusal, drop_refusal, take_refusal, first_in_store}
-use Rattle.hse_rows.specs.CoreDone.{taking_install, done, refused_to, failing, without_job, building, log_with, frozen_log, with_installing, taking, planned, ending, ending_failed, given_up}
-use Rattle.hse_rows.specs.Limits.{ManifestFits, PlanFits, TurnFits, IsWithinLimits}
-use Rattle.hse_rows.specs.CoreStep.{Found, loads, breaks_off, has_version, Reopens, Step}
-use Rattle.hse_rows.specs.CoreLaws.{Entry, Run, LoadsWithinLimits}
+use Rattle.hse_rows.specs.states.State.{store_named}
+use Rattle.hse_rows.specs.states.History.{creates, drops}
+use Rattle.hse_rows.specs.transactions.Moves as move
+use Rattle.hse_rows.specs.transactions.Timeline.{snapshot_of, committing, moved}
+use Rattle.hse_rows.specs.machine.ManifestRoom.{ManifestState, fits}
+use Rattle.hse_rows.specs.rows.Job.{live_ingest, first_on, is_picked, is_built}
+use Rattle.hse_rows.specs.machine.Turn.{TurnKind, TurnWish, sync, freeze, create, drop, Plan, settles, enters, removes, installs, TakenTurn, Turn, home, taken, ran}
+use Rattle.hse_rows.specs.machine.Turn as turns
+use Rattle.hse_rows.specs.machine.Replies as replies
+use Rattle.hse_rows.specs.machine.Replies.{Refusal, Answer}
+use Rattle.hse_rows.specs.machine.Calls.{outside, inside, Call, begin, write_by, get, commit, abort, list_stores, tree, info, take_place, give_place, pick, build, drop_job, next_job, take, take_install, write_turn, end_turn, reopen}
+use Rattle.hse_rows.specs.machine.Core.{Core, Stored, life, now, number_of, write_to, with_move, longest_prefix}
+use Rattle.hse_rows.specs.machine.ManifestEntry.{ManifestEntry, entered, creation_entry, drop_entry, install_entry}
+use Rattle.hse_rows.specs.machine.CoreRefusal.{refusal, refuse, is_spent, outside_refusal, inside_refusal, commit_refusal, is_log_busy, install_refusal, drop_refusal, take_refusal, first_in_store}
+use Rattle.hse_rows.specs.machine.CoreDone.{taking_install, done, refused_to, failing, without_job, building, log_with, frozen_log, with_installing, taking, planned, ending, ending_failed, given_up}
+use Rattle.hse_rows.specs.machine.Limits.{ManifestFits, PlanFits, TurnFits, IsWithinLimits}
+use Rattle.hse_rows.specs.machine.CoreStep.{Found, loads, breaks_off, has_version, Reopens, Step}
+use Rattle.hse_rows.specs.laws.CoreLaws.{Entry, Run, LoadsWithinLimits}
 use Rattle.hse_rows.proofs.PassLemmas.{passes, not_busy, not_busy_with, not_held, found, found_transaction, found_job, is_there}
 use Rattle.hse_rows.proofs.FitLemmas.{creation_fits, drop_fits, entered_fits, frozen_fits, log_after_fits}
 use Rattle.hse_rows.proofs.CoreFits.{abort_within, at_transaction, begin_within, building_within, committing_within, give_place_within, install_entry_fits, installing_within, one_more, outside_within, picking_within, take_place_within, up_to_now, up_to_safe, with_log, with_turn_within, without_within, write_in_within}

@@ -2,20 +2,20 @@
 use Rattle.std.specs.List.{AllByRecursion}
 use Rattle.std.proofs.Common.{◌≡◌, ℕ, ◌+◌, ◌<◌, ◌≤◌, ◌==◌, true, false, cond, List, [], ◌∷◌, ◌++◌, length, Option, Some, None, refl, sym, ◌∙◌, ap, subst, arith, append_assoc, length-append}
 use Rattle.hse_rows.specs.declared.write.Write.{Write}
-use Rattle.hse_rows.specs.NormalForm.{normal_form}
-use Rattle.hse_rows.specs.Rising.{rise-below, rise-from, rise-further, rise-push}
-use Rattle.hse_rows.specs.State.{State, store_named}
-use Rattle.hse_rows.specs.History.{Event, commits, creates, drops, last_number}
-use Rattle.hse_rows.specs.Transaction.{Transaction}
-use Rattle.hse_rows.specs.Moves as move
-use Rattle.hse_rows.specs.Timeline.{Timeline, transaction_of, snapshot_of, for_some, committing}
-use Rattle.hse_rows.specs.Log.{LogState, Frozen, Numbered, logged}
-use Rattle.hse_rows.specs.Job.{JobWish, ingest, of_run, Work, ingesting, on_run, job_of}
-use Rattle.hse_rows.specs.Turn.{TurnWish, sync, freeze, create, drop, Plan, settles, enters, removes, installs, Turn, home, taken, ran}
-use Rattle.hse_rows.specs.Calls.{outside, inside, Call, begin, write_by, get, commit, abort, list_stores, tree, info, take_place, give_place, pick, build, drop_job, next_job, take, take_install, write_turn, end_turn, reopen}
-use Rattle.hse_rows.specs.Core.{Core, now, number_of, oldest, write_to, with_move}
-use Rattle.hse_rows.specs.CoreDone.{done, refused_to, log_with, frozen_log, taking, without_oldest, oldest_gone, log_after, picking, building, planned, ending, ending_failed, given_up}
-use Rattle.hse_rows.specs.Recorded.{commits_in, CommitsUpTo, CommitsBetween, last_frozen, AreLayers, frozen_commits, commits_of, Records}
+use Rattle.hse_rows.specs.writes.NormalForm.{normal_form}
+use Rattle.hse_rows.specs.machine.Rising.{rise-below, rise-from, rise-further, rise-push}
+use Rattle.hse_rows.specs.states.State.{State, store_named}
+use Rattle.hse_rows.specs.states.History.{Event, commits, creates, drops, last_number}
+use Rattle.hse_rows.specs.transactions.Transaction.{Transaction}
+use Rattle.hse_rows.specs.transactions.Moves as move
+use Rattle.hse_rows.specs.transactions.Timeline.{Timeline, transaction_of, snapshot_of, for_some, committing}
+use Rattle.hse_rows.specs.machine.Log.{LogState, Frozen, Numbered, logged}
+use Rattle.hse_rows.specs.rows.Job.{JobWish, ingest, of_run, Work, ingesting, on_run, job_of}
+use Rattle.hse_rows.specs.machine.Turn.{TurnWish, sync, freeze, create, drop, Plan, settles, enters, removes, installs, Turn, home, taken, ran}
+use Rattle.hse_rows.specs.machine.Calls.{outside, inside, Call, begin, write_by, get, commit, abort, list_stores, tree, info, take_place, give_place, pick, build, drop_job, next_job, take, take_install, write_turn, end_turn, reopen}
+use Rattle.hse_rows.specs.machine.Core.{Core, now, number_of, oldest, write_to, with_move}
+use Rattle.hse_rows.specs.machine.CoreDone.{done, refused_to, log_with, frozen_log, taking, without_oldest, oldest_gone, log_after, picking, building, planned, ending, ending_failed, given_up}
+use Rattle.hse_rows.specs.machine.Recorded.{commits_in, CommitsUpTo, CommitsBetween, last_frozen, AreLayers, frozen_commits, commits_of, Records}
 use Rattle.hse_rows.proofs.RecordLemmas.{commits_push}
 
 pub none_added : {A : Type 0} (xs : List A) → xs ++ [] ≡ xs

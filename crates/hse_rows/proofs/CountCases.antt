@@ -3,18 +3,18 @@ use Rattle.std.proofs.Common.{◌≡◌, ℕ, nat_le, false, ◌||◌, List, [],
 use Rattle.std.specs.Prelude.{codes, replicate}
 use Rattle.std.specs.List.{range_with_len}
 use Rattle.hse_rows.specs.declared.store.Mode.TheVariants.{Plain}
-use Rattle.hse_rows.specs.Transaction.{Transaction, begins, ended, aborted, committed}
-use Rattle.hse_rows.specs.Log.{new_log}
-use Rattle.hse_rows.specs.Cursor.{forward}
-use Rattle.hse_rows.specs.Job.{keys, values, ingest, of_run, on_run, Job, picked}
-use Rattle.hse_rows.specs.Replies.{name_used, no_store, no_run, too_many, spent}
-use Rattle.hse_rows.specs.Calls as call
-use Rattle.hse_rows.specs.Core.{Core, live, number_of, most_transactions, greatest_number, new_manifest}
-use Rattle.hse_rows.specs.CoreRefusal as core
-use Rattle.hse_rows.specs.ScriptLines.{nobody, begin, open_cursor, close_cursor, pick}
-use Rattle.hse_rows.specs.Script.{Script}
-use Rattle.hse_rows.specs.ScriptRefusal.{refusal}
-use Rattle.hse_rows.specs.ScriptDone.{done}
+use Rattle.hse_rows.specs.transactions.Transaction.{Transaction, begins, ended, aborted, committed}
+use Rattle.hse_rows.specs.machine.Log.{new_log}
+use Rattle.hse_rows.specs.script.Cursor.{forward}
+use Rattle.hse_rows.specs.rows.Job.{keys, values, ingest, of_run, on_run, Job, picked}
+use Rattle.hse_rows.specs.machine.Replies.{name_used, no_store, no_run, too_many, spent}
+use Rattle.hse_rows.specs.machine.Calls as call
+use Rattle.hse_rows.specs.machine.Core.{Core, live, number_of, most_transactions, greatest_number, new_manifest}
+use Rattle.hse_rows.specs.machine.CoreRefusal as core
+use Rattle.hse_rows.specs.script.ScriptLines.{nobody, begin, open_cursor, close_cursor, pick}
+use Rattle.hse_rows.specs.script.Script.{Script}
+use Rattle.hse_rows.specs.script.ScriptRefusal.{refusal}
+use Rattle.hse_rows.specs.script.ScriptDone.{done}
 use Rattle.hse_rows.proofs.CaseLines.{create_store, loaded, with_sizes}
 use Rattle.hse_rows.proofs.MachineCases.{small, fresh, one_store}
 use Rattle.hse_rows.proofs.RoomCases.{with_stores}

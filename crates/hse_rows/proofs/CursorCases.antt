@@ -6,9 +6,9 @@ use Rattle.std.specs.Ordering.{nat_cmp}
 use Rattle.std.specs.Cmp.Lexicographic.{slice_cmp}
 use Rattle.std.specs.FinMap.{entries-from_sorted}
 use Rattle.std.specs.FinMap as fin_map
-use Rattle.hse_rows.specs.Change.{covers}
-use Rattle.hse_rows.specs.State.{Contents}
-use Rattle.hse_rows.specs.Cursor.{CursorState, Direction, front, forward, backward, Pair, directed, is_reached, is_in_range, rest_of, sought, sought_range, moved, first_of, read_by, after_read, key_by, found_by, updated}
+use Rattle.hse_rows.specs.writes.Change.{covers}
+use Rattle.hse_rows.specs.states.State.{Contents}
+use Rattle.hse_rows.specs.script.Cursor.{CursorState, Direction, front, forward, backward, Pair, directed, is_reached, is_in_range, rest_of, sought, sought_range, moved, first_of, read_by, after_read, key_by, found_by, updated}
 
 -- aa 1, ab 2, ad 3, ba 4
 abbrev aa : Pair

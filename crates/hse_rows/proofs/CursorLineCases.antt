@@ -8,23 +8,23 @@ use Rattle.std.specs.FinMap.{entries-insert, entries-from_sorted, get-from_sorte
 use Rattle.std.specs.FinMap as fin_map
 use Rattle.hse_rows.specs.declared.store.Mode.TheVariants.{Plain, Tx}
 use Rattle.hse_rows.specs.declared.change.Change.TheVariants.{Put}
-use Rattle.hse_rows.specs.Change.{write_of, covers}
-use Rattle.hse_rows.specs.NormalForm.{normal_form}
-use Rattle.hse_rows.specs.State.{Contents}
-use Rattle.hse_rows.specs.Holding.{get-contents_after_all, same_contents}
-use Rattle.hse_rows.specs.History.{new_store}
-use Rattle.hse_rows.specs.Log.{new_log}
-use Rattle.hse_rows.specs.Cursor.{Position, Pair, forward, front, past_key, is_reached, is_in_range, first_of, moved}
-use Rattle.hse_rows.specs.Turn.{sync, create}
-use Rattle.hse_rows.specs.Replies.{ok, value, none, pair, at_end, refused, name_used, no_name, ended_by, by_commit}
-use Rattle.hse_rows.specs.Core.{Stored}
-use Rattle.hse_rows.specs.CoreReply.{found_value}
-use Rattle.hse_rows.specs.CoreStep.{loads}
-use Rattle.hse_rows.specs.ScriptLines.{nobody, someone, begin, get, commit, open_cursor, read, update, take, write_turn, end_turn, turn, reopen}
-use Rattle.hse_rows.specs.Script.{Script}
-use Rattle.hse_rows.specs.ScriptNames.{answer_named}
-use Rattle.hse_rows.specs.ScriptDone.{reply, done, pair_reply, moving_cursor}
-use Rattle.hse_rows.specs.ScriptStep.{answer_of, led_to}
+use Rattle.hse_rows.specs.writes.Change.{write_of, covers}
+use Rattle.hse_rows.specs.writes.NormalForm.{normal_form}
+use Rattle.hse_rows.specs.states.State.{Contents}
+use Rattle.hse_rows.specs.laws.Holding.{get-contents_after_all, same_contents}
+use Rattle.hse_rows.specs.states.History.{new_store}
+use Rattle.hse_rows.specs.machine.Log.{new_log}
+use Rattle.hse_rows.specs.script.Cursor.{Position, Pair, forward, front, past_key, is_reached, is_in_range, first_of, moved}
+use Rattle.hse_rows.specs.machine.Turn.{sync, create}
+use Rattle.hse_rows.specs.machine.Replies.{ok, value, none, pair, at_end, refused, name_used, no_name, ended_by, by_commit}
+use Rattle.hse_rows.specs.machine.Core.{Stored}
+use Rattle.hse_rows.specs.machine.CoreReply.{found_value}
+use Rattle.hse_rows.specs.machine.CoreStep.{loads}
+use Rattle.hse_rows.specs.script.ScriptLines.{nobody, someone, begin, get, commit, open_cursor, read, update, take, write_turn, end_turn, turn, reopen}
+use Rattle.hse_rows.specs.script.Script.{Script}
+use Rattle.hse_rows.specs.script.ScriptNames.{answer_named}
+use Rattle.hse_rows.specs.script.ScriptDone.{reply, done, pair_reply, moving_cursor}
+use Rattle.hse_rows.specs.script.ScriptStep.{answer_of, led_to}
 use Rattle.hse_rows.proofs.CaseLines.{without_sets}
 use Rattle.hse_rows.proofs.RowCases.{device, started, led, answers, put_in, put_out, a, b, s, one}
 

@@ -8,11 +8,11 @@ use Rattle.std.proofs.Math.Bool.{true≢false}
 use Rattle.hse_rows.specs.declared.change.Change.{Change}
 use Rattle.hse_rows.specs.declared.change.Change.TheVariants.{Put, Del, PDel}
 use Rattle.hse_rows.specs.declared.write.Write.{Write}
-use Rattle.hse_rows.specs.Change.{covers}
-use Rattle.hse_rows.specs.Sorted.{placed, sorted}
-use Rattle.hse_rows.specs.NormalForm.{hides, hides_change, rank, write_cmp, lasting, normal_form}
-use Rattle.hse_rows.specs.Reach.{reaches, leaves, touches, left_by}
-use Rattle.hse_rows.specs.LastEffect.{effect, last_effect_settled, effects_swap}
+use Rattle.hse_rows.specs.writes.Change.{covers}
+use Rattle.hse_rows.specs.writes.Sorted.{placed, sorted}
+use Rattle.hse_rows.specs.writes.NormalForm.{hides, hides_change, rank, write_cmp, lasting, normal_form}
+use Rattle.hse_rows.specs.writes.Reach.{reaches, leaves, touches, left_by}
+use Rattle.hse_rows.specs.laws.LastEffect.{effect, last_effect_settled, effects_swap}
 use Rattle.hse_rows.proofs.ChangeLemmas.{same_by_test}
 use Rattle.hse_rows.proofs.NormalFormLemmas.{or_left, or_right, or_none, or_some, list_any-placed, Keep, lasting_keep, is_prefix_delete, AreRanked, none_behind, ranked-placed}
 

@@ -7,27 +7,27 @@ use Rattle.std.proofs.lemmas.List.Sums.{sum_by-append}
 use Rattle.std.proofs.lemmas.Bool.Decides.{nat_tests}
 use Rattle.hse_rows.specs.declared.store.Mode.{Mode}
 use Rattle.hse_rows.specs.declared.write.Write.{Write}
-use Rattle.hse_rows.specs.Charge.{charge_of}
-use Rattle.hse_rows.specs.Rising.{rise-filter, rise-push}
-use Rattle.hse_rows.specs.State.{Store, State}
-use Rattle.hse_rows.specs.Holding.{written_all, applied_all-stores}
-use Rattle.hse_rows.specs.History.{Event, commits, creates, drops, new_store, happened, folded, last_number}
-use Rattle.hse_rows.specs.Folding.{folded_push}
-use Rattle.hse_rows.specs.Transaction.{Transaction, is_active}
-use Rattle.hse_rows.specs.Log.{LogState, Frozen, Numbered, charge_of_active, room_of, room_left, logged}
-use Rattle.hse_rows.specs.ManifestRoom.{ManifestState, half_room, fits, cannot_roll, gained, greatest_sequence}
-use Rattle.hse_rows.specs.Sizes.{Sizes}
-use Rattle.hse_rows.specs.Job.{JobWish, ingest, of_run, Work, ingesting, on_run, Job, AreApart, JobState, job_of, needed_blocks, live_ingest, claimer, first_on, is_picked, is_built}
-use Rattle.hse_rows.specs.Job as job_states
-use Rattle.hse_rows.specs.Layout.{NewSet}
-use Rattle.hse_rows.specs.Turn.{Turn, home, taken, ran}
-use Rattle.hse_rows.specs.Replies as replies
-use Rattle.hse_rows.specs.Replies.{Refusal, Answer}
-use Rattle.hse_rows.specs.Core.{Core, oldest}
-use Rattle.hse_rows.specs.ManifestEntry.{ManifestEntry, whole_need, has_no_room, entered}
-use Rattle.hse_rows.specs.CoreRefusal.{room_refusal, is_log_busy, entry_refusal}
-use Rattle.hse_rows.specs.CoreDone.{without_job, with_state, frozen_log, without_oldest, oldest_gone, log_after}
-use Rattle.hse_rows.specs.Limits.{HistoryFits, LayerFits, LogFits, ManifestFits, TransactionsFit, JobsFit, TurnFits}
+use Rattle.hse_rows.specs.writes.Charge.{charge_of}
+use Rattle.hse_rows.specs.machine.Rising.{rise-filter, rise-push}
+use Rattle.hse_rows.specs.states.State.{Store, State}
+use Rattle.hse_rows.specs.laws.Holding.{written_all, applied_all-stores}
+use Rattle.hse_rows.specs.states.History.{Event, commits, creates, drops, new_store, happened, folded, last_number}
+use Rattle.hse_rows.specs.laws.Folding.{folded_push}
+use Rattle.hse_rows.specs.transactions.Transaction.{Transaction, is_active}
+use Rattle.hse_rows.specs.machine.Log.{LogState, Frozen, Numbered, charge_of_active, room_of, room_left, logged}
+use Rattle.hse_rows.specs.machine.ManifestRoom.{ManifestState, half_room, fits, cannot_roll, gained, greatest_sequence}
+use Rattle.hse_rows.specs.machine.Sizes.{Sizes}
+use Rattle.hse_rows.specs.rows.Job.{JobWish, ingest, of_run, Work, ingesting, on_run, Job, AreApart, JobState, job_of, needed_blocks, live_ingest, claimer, first_on, is_picked, is_built}
+use Rattle.hse_rows.specs.rows.Job as job_states
+use Rattle.hse_rows.specs.rows.Layout.{NewSet}
+use Rattle.hse_rows.specs.machine.Turn.{Turn, home, taken, ran}
+use Rattle.hse_rows.specs.machine.Replies as replies
+use Rattle.hse_rows.specs.machine.Replies.{Refusal, Answer}
+use Rattle.hse_rows.specs.machine.Core.{Core, oldest}
+use Rattle.hse_rows.specs.machine.ManifestEntry.{ManifestEntry, whole_need, has_no_room, entered}
+use Rattle.hse_rows.specs.machine.CoreRefusal.{room_refusal, is_log_busy, entry_refusal}
+use Rattle.hse_rows.specs.machine.CoreDone.{without_job, with_state, frozen_log, without_oldest, oldest_gone, log_after}
+use Rattle.hse_rows.specs.machine.Limits.{HistoryFits, LayerFits, LogFits, ManifestFits, TransactionsFit, JobsFit, TurnFits}
 use Rattle.hse_rows.proofs.JobLemmas.{led_numbered, push_apart, filter_apart, led_apart}
 use Rattle.hse_rows.proofs.PassLemmas.{passes}
 

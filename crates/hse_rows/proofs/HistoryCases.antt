@@ -6,14 +6,14 @@ use Rattle.hse_rows.specs.declared.store.Mode.TheVariants.{Plain, Tx}
 use Rattle.hse_rows.specs.declared.change.Change.{Change}
 use Rattle.hse_rows.specs.declared.change.Change.TheVariants.{Put}
 use Rattle.hse_rows.specs.declared.write.Write.{Write}
-use Rattle.hse_rows.specs.Change.{write_of}
-use Rattle.hse_rows.specs.State.{State, store_named}
-use Rattle.hse_rows.specs.Holding.{get-contents_after_all}
-use Rattle.hse_rows.specs.History.{Event, commits, creates, drops, new_store, happened, folded, fold, events_since, last_number}
-use Rattle.hse_rows.specs.Rooted.{writes_of, bare, AreRooted}
-use Rattle.hse_rows.specs.Log.{LogState, Frozen, Numbered, new_log, logged, charge_of_active, room_left, IsWithinLayers}
-use Rattle.hse_rows.specs.Recorded.{commits_in, taken_in}
-use Rattle.hse_rows.specs.Timeline.{for_some}
+use Rattle.hse_rows.specs.writes.Change.{write_of}
+use Rattle.hse_rows.specs.states.State.{State, store_named}
+use Rattle.hse_rows.specs.laws.Holding.{get-contents_after_all}
+use Rattle.hse_rows.specs.states.History.{Event, commits, creates, drops, new_store, happened, folded, fold, events_since, last_number}
+use Rattle.hse_rows.specs.states.Rooted.{writes_of, bare, AreRooted}
+use Rattle.hse_rows.specs.machine.Log.{LogState, Frozen, Numbered, new_log, logged, charge_of_active, room_left, IsWithinLayers}
+use Rattle.hse_rows.specs.machine.Recorded.{commits_in, taken_in}
+use Rattle.hse_rows.specs.transactions.Timeline.{for_some}
 
 abbrev of : ℕ → Change → Write
 of id change = write_of (record { 0 = id }) change

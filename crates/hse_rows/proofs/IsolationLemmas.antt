@@ -3,16 +3,16 @@ use Rattle.std.proofs.Common.{◌≡◌, ◌≢◌, ℕ, ◌+◌, ◌-◌, ◌�
 use Rattle.std.specs.List.{slice_get, AllByRecursion}
 use Rattle.std.proofs.lemmas.List.{length-append}
 use Rattle.hse_rows.specs.declared.write.Write.{Write}
-use Rattle.hse_rows.specs.NormalForm.{normal_form}
-use Rattle.hse_rows.specs.State.{State}
-use Rattle.hse_rows.specs.History.{Event, commits, creates, drops, fold, last_number}
-use Rattle.hse_rows.specs.Folding.{fold-stays}
+use Rattle.hse_rows.specs.writes.NormalForm.{normal_form}
+use Rattle.hse_rows.specs.states.State.{State}
+use Rattle.hse_rows.specs.states.History.{Event, commits, creates, drops, fold, last_number}
+use Rattle.hse_rows.specs.laws.Folding.{fold-stays}
 use Rattle.hse_rows.specs.declared.store.Mode.TheVariants.{Tx}
-use Rattle.hse_rows.specs.Transaction.{TransactionState, active, committed, aborted, Transaction, begins, staged, ended}
-use Rattle.hse_rows.specs.Conflict.{conflict_of}
-use Rattle.hse_rows.specs.Moves.{Move, begin, write_in, write_out, commit, abort, create, remove}
-use Rattle.hse_rows.specs.Timeline.{Timeline, opened, number_of, transaction_of, snapshot_of, HasStore, IsActive, Allows, for_some, with_event, with_transaction, committing, moved, Goes, stays, moves, opens}
-use Rattle.hse_rows.specs.Isolation.{IsCommitted, IsTransaction, IsBeforeCommit, AreApart, IsIsolated, AreIsolated, Reached, starts, goes_on}
+use Rattle.hse_rows.specs.transactions.Transaction.{TransactionState, active, committed, aborted, Transaction, begins, staged, ended}
+use Rattle.hse_rows.specs.transactions.Conflict.{conflict_of}
+use Rattle.hse_rows.specs.transactions.Moves.{Move, begin, write_in, write_out, commit, abort, create, remove}
+use Rattle.hse_rows.specs.transactions.Timeline.{Timeline, opened, number_of, transaction_of, snapshot_of, HasStore, IsActive, Allows, for_some, with_event, with_transaction, committing, moved, Goes, stays, moves, opens}
+use Rattle.hse_rows.specs.transactions.Isolation.{IsCommitted, IsTransaction, IsBeforeCommit, AreApart, IsIsolated, AreIsolated, Reached, starts, goes_on}
 use Rattle.hse_rows.proofs.PlaceLemmas.{get-append, get_last, get_push, get-set}
 use Rattle.hse_rows.proofs.ApartLemmas.{apart_from_none, apart_turned, apart_push, free_of}
 

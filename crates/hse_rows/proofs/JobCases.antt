@@ -4,14 +4,14 @@ use Rattle.std.specs.Prelude.{codes}
 use Rattle.hse_rows.specs.declared.store.Mode.TheVariants.{Plain}
 use Rattle.hse_rows.specs.declared.change.Change.TheVariants.{Put, Del}
 use Rattle.hse_rows.specs.declared.row.Row.{Row}
-use Rattle.hse_rows.specs.NormalForm.{normal_form}
-use Rattle.hse_rows.specs.Newest.{newest}
-use Rattle.hse_rows.specs.Layout.{RowsInBlocks, Node, NewSet}
-use Rattle.hse_rows.specs.Job.{ingest, of_run, keys, values, spill, ingesting, on_run, Job, Work, JobState, picked, built, installing}
-use Rattle.hse_rows.specs.Turn.{freeze, create, drop, home}
-use Rattle.hse_rows.specs.ScriptLines.{nobody, write_by, pick, build, drop_job, take, take_install, write_turn, end_turn, turn, job}
-use Rattle.hse_rows.specs.Script.{Script}
-use Rattle.hse_rows.specs.ScriptDone.{done, failing, refused_to}
+use Rattle.hse_rows.specs.writes.NormalForm.{normal_form}
+use Rattle.hse_rows.specs.rows.Newest.{newest}
+use Rattle.hse_rows.specs.rows.Layout.{RowsInBlocks, Node, NewSet}
+use Rattle.hse_rows.specs.rows.Job.{ingest, of_run, keys, values, spill, ingesting, on_run, Job, Work, JobState, picked, built, installing}
+use Rattle.hse_rows.specs.machine.Turn.{freeze, create, drop, home}
+use Rattle.hse_rows.specs.script.ScriptLines.{nobody, write_by, pick, build, drop_job, take, take_install, write_turn, end_turn, turn, job}
+use Rattle.hse_rows.specs.script.Script.{Script}
+use Rattle.hse_rows.specs.script.ScriptDone.{done, failing, refused_to}
 use Rattle.hse_rows.proofs.CaseLines.{with_manifest}
 use Rattle.hse_rows.proofs.RowCases.{device, started, led, put_out, a, b, s, one}
 

@@ -3,17 +3,17 @@ use Rattle.std.specs.Prelude.{◌==◌}
 use Rattle.std.specs.List.{AllByRecursion, filter, find}
 use Rattle.std.proofs.Common.{◌≡◌, ℕ, ◌+◌, ◌<◌, Bool, true, false, not, cond, List, [], ◌∷◌, ◌++◌, Option, Some, None, refl, sym, ◌∙◌, ap, subst, arith}
 use Rattle.std.proofs.lemmas.Bool.Decides.{nat_tests}
-use Rattle.hse_rows.specs.Rising.{Rise, rise-below}
-use Rattle.hse_rows.specs.State.{store_named}
-use Rattle.hse_rows.specs.Timeline.{for_some}
-use Rattle.hse_rows.specs.Layout.{NewSet}
-use Rattle.hse_rows.specs.Job.{JobWish, ingest, of_run, Work, on_run, Job, AreNumbered, AreApart, ClaimApart, JobState, picked, built, is_picked, is_installing, job_of}
-use Rattle.hse_rows.specs.Replies as replies
-use Rattle.hse_rows.specs.Calls.{build, drop_job}
-use Rattle.hse_rows.specs.Core.{Core, now}
-use Rattle.hse_rows.specs.CoreRefusal.{refusal, refuse, pick_refusal, with_job}
-use Rattle.hse_rows.specs.CoreReply.{sets_for}
-use Rattle.hse_rows.specs.CoreDone.{done, without_job, with_state, with_picked, picking, building, run_of}
+use Rattle.hse_rows.specs.machine.Rising.{Rise, rise-below}
+use Rattle.hse_rows.specs.states.State.{store_named}
+use Rattle.hse_rows.specs.transactions.Timeline.{for_some}
+use Rattle.hse_rows.specs.rows.Layout.{NewSet}
+use Rattle.hse_rows.specs.rows.Job.{JobWish, ingest, of_run, Work, on_run, Job, AreNumbered, AreApart, ClaimApart, JobState, picked, built, is_picked, is_installing, job_of}
+use Rattle.hse_rows.specs.machine.Replies as replies
+use Rattle.hse_rows.specs.machine.Calls.{build, drop_job}
+use Rattle.hse_rows.specs.machine.Core.{Core, now}
+use Rattle.hse_rows.specs.machine.CoreRefusal.{refusal, refuse, pick_refusal, with_job}
+use Rattle.hse_rows.specs.machine.CoreReply.{sets_for}
+use Rattle.hse_rows.specs.machine.CoreDone.{done, without_job, with_state, with_picked, picking, building, run_of}
 use Rattle.hse_rows.proofs.PassLemmas.{passes, found}
 
 abbrev pub AreBelow : ℕ → List Job → Type 0

@@ -3,11 +3,11 @@ use Rattle.std.proofs.Common.{◌≡◌, ℕ, List, [], ◌∷◌, refl}
 use Rattle.std.specs.Prelude.{codes, replicate}
 use Rattle.hse_rows.specs.declared.store.Mode.TheVariants.{Plain, Tx}
 use Rattle.hse_rows.specs.declared.change.Change.TheVariants.{Del}
-use Rattle.hse_rows.specs.NormalForm.{normal_form}
-use Rattle.hse_rows.specs.Cursor.{forward}
-use Rattle.hse_rows.specs.Turn.{freeze, create}
-use Rattle.hse_rows.specs.Replies.{accepted, ok, refused, key_length, value_length, txn_size, log_full}
-use Rattle.hse_rows.specs.ScriptLines.{nobody, begin, write_by, commit, open_cursor, seek_range, turn}
+use Rattle.hse_rows.specs.writes.NormalForm.{normal_form}
+use Rattle.hse_rows.specs.script.Cursor.{forward}
+use Rattle.hse_rows.specs.machine.Turn.{freeze, create}
+use Rattle.hse_rows.specs.machine.Replies.{accepted, ok, refused, key_length, value_length, txn_size, log_full}
+use Rattle.hse_rows.specs.script.ScriptLines.{nobody, begin, write_by, commit, open_cursor, seek_range, turn}
 use Rattle.hse_rows.proofs.RowCases.{device, started, answers, put_in, put_out, a, b, s, one}
 
 -- so many bytes

@@ -5,13 +5,13 @@ use Rattle.hse_rows.specs.declared.change.Change.{Change}
 use Rattle.hse_rows.specs.declared.change.Change.TheVariants.{Put, Del, PDel}
 use Rattle.hse_rows.specs.declared.row.Row.{Row}
 use Rattle.hse_rows.specs.declared.write.Write.{Write}
-use Rattle.hse_rows.specs.Change.{write_of}
+use Rattle.hse_rows.specs.writes.Change.{write_of}
 use Rattle.hse_rows.specs.declared.store.Mode.TheVariants.{Plain}
-use Rattle.hse_rows.specs.History.{new_store}
-use Rattle.hse_rows.specs.Log.{Numbered}
-use Rattle.hse_rows.specs.Newest.{newest, merged, rows_of}
-use Rattle.hse_rows.specs.Routing.{greatest_depth, child_of, hash_of}
-use Rattle.hse_rows.specs.Layout.{Layout, Node, sets_at, is_last}
+use Rattle.hse_rows.specs.states.History.{new_store}
+use Rattle.hse_rows.specs.machine.Log.{Numbered}
+use Rattle.hse_rows.specs.rows.Newest.{newest, merged, rows_of}
+use Rattle.hse_rows.specs.rows.Routing.{greatest_depth, child_of, hash_of}
+use Rattle.hse_rows.specs.rows.Layout.{Layout, Node, sets_at, is_last}
 use Rattle.hse_rows.proofs.CaseLines.{ingested, compacted, spilled}
 
 abbrev numbered : ℕ → Change → Row

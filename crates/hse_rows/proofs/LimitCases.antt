@@ -6,11 +6,11 @@ use Rattle.std.specs.List.{list_all}
 use Rattle.hse_rows.specs.declared.change.Change.TheVariants.{Put, Del, PDel}
 use Rattle.hse_rows.specs.declared.length_fault.LengthFault.TheVariants as fault
 use Rattle.hse_rows.specs.declared.name.NameFault.TheVariants as name
-use Rattle.hse_rows.specs.Lengths.{IsKeyLength, IsEdgeLength, IsPrefixLength, FitsPrefix}
-use Rattle.hse_rows.specs.Names.{is_name_byte, IsName}
-use Rattle.hse_rows.specs.Refusals.{RefusesKey, RefusesEdge, RefusesValue, RefusesPrefix, RefusesName}
-use Rattle.hse_rows.specs.Change.{FitsLimits}
-use Rattle.hse_rows.specs.Core.{longest_value}
+use Rattle.hse_rows.specs.writes.Lengths.{IsKeyLength, IsEdgeLength, IsPrefixLength, FitsPrefix}
+use Rattle.hse_rows.specs.writes.Names.{is_name_byte, IsName}
+use Rattle.hse_rows.specs.writes.Refusals.{RefusesKey, RefusesEdge, RefusesValue, RefusesPrefix, RefusesName}
+use Rattle.hse_rows.specs.writes.Change.{FitsLimits}
+use Rattle.hse_rows.specs.machine.Core.{longest_value}
 use Rattle.hse_rows.proofs.MachineCases.{small}
 
 -- ---- lengths

@@ -1,27 +1,27 @@
 -- Each line has one answer but for want of memory and device faults, and an answer leads one way.
 use Rattle.std.proofs.Common.{◌≡◌, ◌≢◌, inl, inr, ℕ, Bool, true, false, cond, List, Option, Some, None, is_some, refl, sym, ◌∙◌, ap}
-use Rattle.hse_rows.specs.Timeline.{for_some}
-use Rattle.hse_rows.specs.Cursor.{Pair, read_by, sought, sought_range, found_by}
-use Rattle.hse_rows.specs.Job.{JobWish}
-use Rattle.hse_rows.specs.Turn.{Turn, home, taken, ran}
-use Rattle.hse_rows.specs.Replies as replies
-use Rattle.hse_rows.specs.Replies.{Refusal, Answer}
-use Rattle.hse_rows.specs.Calls.{inside, outside, Call}
-use Rattle.hse_rows.specs.Calls as call
-use Rattle.hse_rows.specs.Core.{Core}
-use Rattle.hse_rows.specs.CoreRefusal.{unless_busy}
-use Rattle.hse_rows.specs.CoreReply.{value_in, found_value, next_reply, end_reply}
-use Rattle.hse_rows.specs.CoreReply as replied
-use Rattle.hse_rows.specs.Schedule.{next_wish}
-use Rattle.hse_rows.specs.CoreStep.{Found, loads, breaks_off, has_version}
-use Rattle.hse_rows.specs.ScriptLines.{nobody, someone, Line, begin, write_by, get, commit, tree, seek, seek_range, read, build, next_job, end_turn, turn, job, auto, reopen, silent}
-use Rattle.hse_rows.specs.Script.{Script, order_of, job_named, cursor_named}
-use Rattle.hse_rows.specs.ScriptNames.{told, answer_named}
-use Rattle.hse_rows.specs.ScriptRefusal.{refusal, asked, with_built}
-use Rattle.hse_rows.specs.ScriptDone.{reply, done, refused_to, once_picked, job_refused, answered, key_reply, pair_reply, turn_reply, job_reply}
-use Rattle.hse_rows.specs.ScriptDone as scripts
-use Rattle.hse_rows.specs.ScriptStep.{LacksMemory, Reopens, Step, opening_answer, refused_or, answer_of, led_to}
-use Rattle.hse_rows.specs.ScriptLaws.{PicksJob, Leaves}
+use Rattle.hse_rows.specs.transactions.Timeline.{for_some}
+use Rattle.hse_rows.specs.script.Cursor.{Pair, read_by, sought, sought_range, found_by}
+use Rattle.hse_rows.specs.rows.Job.{JobWish}
+use Rattle.hse_rows.specs.machine.Turn.{Turn, home, taken, ran}
+use Rattle.hse_rows.specs.machine.Replies as replies
+use Rattle.hse_rows.specs.machine.Replies.{Refusal, Answer}
+use Rattle.hse_rows.specs.machine.Calls.{inside, outside, Call}
+use Rattle.hse_rows.specs.machine.Calls as call
+use Rattle.hse_rows.specs.machine.Core.{Core}
+use Rattle.hse_rows.specs.machine.CoreRefusal.{unless_busy}
+use Rattle.hse_rows.specs.machine.CoreReply.{value_in, found_value, next_reply, end_reply}
+use Rattle.hse_rows.specs.machine.CoreReply as replied
+use Rattle.hse_rows.specs.rows.Schedule.{next_wish}
+use Rattle.hse_rows.specs.machine.CoreStep.{Found, loads, breaks_off, has_version}
+use Rattle.hse_rows.specs.script.ScriptLines.{nobody, someone, Line, begin, write_by, get, commit, tree, seek, seek_range, read, build, next_job, end_turn, turn, job, auto, reopen, silent}
+use Rattle.hse_rows.specs.script.Script.{Script, order_of, job_named, cursor_named}
+use Rattle.hse_rows.specs.script.ScriptNames.{told, answer_named}
+use Rattle.hse_rows.specs.script.ScriptRefusal.{refusal, asked, with_built}
+use Rattle.hse_rows.specs.script.ScriptDone.{reply, done, refused_to, once_picked, job_refused, answered, key_reply, pair_reply, turn_reply, job_reply}
+use Rattle.hse_rows.specs.script.ScriptDone as scripts
+use Rattle.hse_rows.specs.script.ScriptStep.{LacksMemory, Reopens, Step, opening_answer, refused_or, answer_of, led_to}
+use Rattle.hse_rows.specs.laws.ScriptLaws.{PicksJob, Leaves}
 use Rattle.hse_rows.proofs.CoreAnswers.{IsReply, found_reply, call_reply}
 
 -- ---- where an answer leads

@@ -1,27 +1,27 @@
 -- A line is its calls, one after another.
 use Rattle.std.proofs.Common.{◌≡◌, ◌≢◌, ℕ, not, List, [], ◌∷◌, Option, Some, None, is_some, refl, sym, ap, subst}
-use Rattle.hse_rows.specs.State.{State, store_named}
-use Rattle.hse_rows.specs.Transaction.{TransactionState, active, committed, aborted, read_of}
-use Rattle.hse_rows.specs.Timeline.{for_some, transaction_of}
-use Rattle.hse_rows.specs.Cursor.{Direction}
-use Rattle.hse_rows.specs.Job.{JobWish}
-use Rattle.hse_rows.specs.Replies as replies
-use Rattle.hse_rows.specs.Replies.{Refusal, Answer}
-use Rattle.hse_rows.specs.Calls.{inside, outside, Call}
-use Rattle.hse_rows.specs.Calls as call
-use Rattle.hse_rows.specs.Core.{Core, now}
-use Rattle.hse_rows.specs.CoreRefusal as core
-use Rattle.hse_rows.specs.CoreReply as replied
-use Rattle.hse_rows.specs.CoreDone as leads
-use Rattle.hse_rows.specs.Schedule.{next_wish}
-use Rattle.hse_rows.specs.CoreStep.{Found}
-use Rattle.hse_rows.specs.ScriptLines.{Who, nobody, someone, Line, begin, write_by, get, commit, abort, list_stores, tree, info, open_cursor, seek, seek_range, read, update, close_cursor, pick, build, drop_job, next_job, take, take_install, write_turn, end_turn, turn, job, auto, reopen, silent, bad}
-use Rattle.hse_rows.specs.Script.{Script, order_of, job_named, cursor_named, is_begun}
-use Rattle.hse_rows.specs.ScriptNames.{answer_named}
-use Rattle.hse_rows.specs.ScriptRefusal.{refusal, refuse, asked, with_built, unless_ended, edge_refusal, job_refusal, or_later}
-use Rattle.hse_rows.specs.ScriptDone.{answered, reply, done, failing, opening_cursor, turned, turn_failed, turn_reply, job_reply}
-use Rattle.hse_rows.specs.ScriptStep.{CallsForSome, MayFail}
-use Rattle.hse_rows.specs.ScriptCalls.{LeadsAnswered, turn_calls, calls_of}
+use Rattle.hse_rows.specs.states.State.{State, store_named}
+use Rattle.hse_rows.specs.transactions.Transaction.{TransactionState, active, committed, aborted, read_of}
+use Rattle.hse_rows.specs.transactions.Timeline.{for_some, transaction_of}
+use Rattle.hse_rows.specs.script.Cursor.{Direction}
+use Rattle.hse_rows.specs.rows.Job.{JobWish}
+use Rattle.hse_rows.specs.machine.Replies as replies
+use Rattle.hse_rows.specs.machine.Replies.{Refusal, Answer}
+use Rattle.hse_rows.specs.machine.Calls.{inside, outside, Call}
+use Rattle.hse_rows.specs.machine.Calls as call
+use Rattle.hse_rows.specs.machine.Core.{Core, now}
+use Rattle.hse_rows.specs.machine.CoreRefusal as core
+use Rattle.hse_rows.specs.machine.CoreReply as replied
+use Rattle.hse_rows.specs.machine.CoreDone as leads
+use Rattle.hse_rows.specs.rows.Schedule.{next_wish}
+use Rattle.hse_rows.specs.machine.CoreStep.{Found}
+use Rattle.hse_rows.specs.script.ScriptLines.{Who, nobody, someone, Line, begin, write_by, get, commit, abort, list_stores, tree, info, open_cursor, seek, seek_range, read, update, close_cursor, pick, build, drop_job, next_job, take, take_install, write_turn, end_turn, turn, job, auto, reopen, silent, bad}
+use Rattle.hse_rows.specs.script.Script.{Script, order_of, job_named, cursor_named, is_begun}
+use Rattle.hse_rows.specs.script.ScriptNames.{answer_named}
+use Rattle.hse_rows.specs.script.ScriptRefusal.{refusal, refuse, asked, with_built, unless_ended, edge_refusal, job_refusal, or_later}
+use Rattle.hse_rows.specs.script.ScriptDone.{answered, reply, done, failing, opening_cursor, turned, turn_failed, turn_reply, job_reply}
+use Rattle.hse_rows.specs.script.ScriptStep.{CallsForSome, MayFail}
+use Rattle.hse_rows.specs.script.ScriptCalls.{LeadsAnswered, turn_calls, calls_of}
 use Rattle.hse_rows.proofs.CoreAnswers.{IsOther}
 use Rattle.hse_rows.proofs.ScriptGoes.{not_told, passed}
 use Rattle.hse_rows.proofs.JobLemmas.{AreBelow}

@@ -1,24 +1,24 @@
 -- What lines leave as it was.
 use Rattle.std.proofs.Common.{◌≡◌, inl, inr, ℕ, Bool, true, false, cond, List, Option, Some, None, is_some, refl, ◌∙◌, ap}
-use Rattle.hse_rows.specs.State.{store_named}
-use Rattle.hse_rows.specs.Transaction.{read_of}
-use Rattle.hse_rows.specs.Timeline.{transaction_of, for_some}
-use Rattle.hse_rows.specs.Cursor.{Direction}
-use Rattle.hse_rows.specs.Job.{JobWish}
-use Rattle.hse_rows.specs.Replies as replies
-use Rattle.hse_rows.specs.Replies.{Answer}
-use Rattle.hse_rows.specs.Calls.{Call}
-use Rattle.hse_rows.specs.Calls as call
-use Rattle.hse_rows.specs.Core.{Core, now}
-use Rattle.hse_rows.specs.CoreDone as leads
-use Rattle.hse_rows.specs.Schedule.{next_wish}
-use Rattle.hse_rows.specs.CoreStep.{Found}
-use Rattle.hse_rows.specs.ScriptLines.{Who, nobody, someone, Line, begin, write_by, commit, abort, open_cursor, seek, seek_range, read, update, close_cursor, pick, build, drop_job, take, take_install, write_turn, end_turn, turn, job, auto, reopen, silent}
-use Rattle.hse_rows.specs.Script.{Script, order_of, job_named, cursor_named}
-use Rattle.hse_rows.specs.ScriptRefusal.{asked, with_built}
-use Rattle.hse_rows.specs.ScriptDone.{done, refused_to, failing, turned, turn_failed, ran, job_done, job_failed, once_picked, job_refused}
-use Rattle.hse_rows.specs.ScriptStep.{LacksMemory, Step}
-use Rattle.hse_rows.specs.ScriptLaws.{ChangesTimeline, ChangesNames}
+use Rattle.hse_rows.specs.states.State.{store_named}
+use Rattle.hse_rows.specs.transactions.Transaction.{read_of}
+use Rattle.hse_rows.specs.transactions.Timeline.{transaction_of, for_some}
+use Rattle.hse_rows.specs.script.Cursor.{Direction}
+use Rattle.hse_rows.specs.rows.Job.{JobWish}
+use Rattle.hse_rows.specs.machine.Replies as replies
+use Rattle.hse_rows.specs.machine.Replies.{Answer}
+use Rattle.hse_rows.specs.machine.Calls.{Call}
+use Rattle.hse_rows.specs.machine.Calls as call
+use Rattle.hse_rows.specs.machine.Core.{Core, now}
+use Rattle.hse_rows.specs.machine.CoreDone as leads
+use Rattle.hse_rows.specs.rows.Schedule.{next_wish}
+use Rattle.hse_rows.specs.machine.CoreStep.{Found}
+use Rattle.hse_rows.specs.script.ScriptLines.{Who, nobody, someone, Line, begin, write_by, commit, abort, open_cursor, seek, seek_range, read, update, close_cursor, pick, build, drop_job, take, take_install, write_turn, end_turn, turn, job, auto, reopen, silent}
+use Rattle.hse_rows.specs.script.Script.{Script, order_of, job_named, cursor_named}
+use Rattle.hse_rows.specs.script.ScriptRefusal.{asked, with_built}
+use Rattle.hse_rows.specs.script.ScriptDone.{done, refused_to, failing, turned, turn_failed, ran, job_done, job_failed, once_picked, job_refused}
+use Rattle.hse_rows.specs.script.ScriptStep.{LacksMemory, Step}
+use Rattle.hse_rows.specs.laws.ScriptLaws.{ChangesTimeline, ChangesNames}
 use Rattle.hse_rows.proofs.CoreGoes.{done_keeps, refused_keeps}
 
 -- ---- names and cursors

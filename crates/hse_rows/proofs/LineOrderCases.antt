@@ -5,20 +5,20 @@ use Rattle.std.specs.Prelude.{codes, replicate}
 use Rattle.std.specs.List.{range_with_len}
 use Rattle.hse_rows.specs.declared.store.Mode.TheVariants.{Plain, Tx}
 use Rattle.hse_rows.specs.declared.change.Change.TheVariants.{Put}
-use Rattle.hse_rows.specs.Change.{write_of}
-use Rattle.hse_rows.specs.NormalForm.{normal_form}
-use Rattle.hse_rows.specs.History.{new_store}
-use Rattle.hse_rows.specs.Transaction.{begins, staged, ended, aborted}
-use Rattle.hse_rows.specs.Log.{Frozen, LogState, new_log}
-use Rattle.hse_rows.specs.Layout.{NewSet}
-use Rattle.hse_rows.specs.Cursor.{forward, front}
-use Rattle.hse_rows.specs.Job.{keys, values, spill, ingest, of_run, Work, ingesting, on_run, JobState, picked, built, Job}
-use Rattle.hse_rows.specs.Turn.{freeze, syncing, settles, Turn, home, taken}
-use Rattle.hse_rows.specs.Replies.{name_used, no_name, ended_by, by_abort, no_store, store_mode, key_length, value_length, broken, too_many, spent, busy, manifest_full, txn_size, log_full, log_busy, full, node_busy, canceled_held, depth, no_run, job_state}
-use Rattle.hse_rows.specs.Core.{new_manifest}
-use Rattle.hse_rows.specs.ScriptLines.{someone, commit, open_cursor, pick, take_install, turn}
-use Rattle.hse_rows.specs.Script.{Script}
-use Rattle.hse_rows.specs.ScriptRefusal.{refusal}
+use Rattle.hse_rows.specs.writes.Change.{write_of}
+use Rattle.hse_rows.specs.writes.NormalForm.{normal_form}
+use Rattle.hse_rows.specs.states.History.{new_store}
+use Rattle.hse_rows.specs.transactions.Transaction.{begins, staged, ended, aborted}
+use Rattle.hse_rows.specs.machine.Log.{Frozen, LogState, new_log}
+use Rattle.hse_rows.specs.rows.Layout.{NewSet}
+use Rattle.hse_rows.specs.script.Cursor.{forward, front}
+use Rattle.hse_rows.specs.rows.Job.{keys, values, spill, ingest, of_run, Work, ingesting, on_run, JobState, picked, built, Job}
+use Rattle.hse_rows.specs.machine.Turn.{freeze, syncing, settles, Turn, home, taken}
+use Rattle.hse_rows.specs.machine.Replies.{name_used, no_name, ended_by, by_abort, no_store, store_mode, key_length, value_length, broken, too_many, spent, busy, manifest_full, txn_size, log_full, log_busy, full, node_busy, canceled_held, depth, no_run, job_state}
+use Rattle.hse_rows.specs.machine.Core.{new_manifest}
+use Rattle.hse_rows.specs.script.ScriptLines.{someone, commit, open_cursor, pick, take_install, turn}
+use Rattle.hse_rows.specs.script.Script.{Script}
+use Rattle.hse_rows.specs.script.ScriptRefusal.{refusal}
 use Rattle.hse_rows.proofs.CaseLines.{loaded, with_manifest}
 use Rattle.hse_rows.proofs.MachineCases.{small, one_store}
 use Rattle.hse_rows.proofs.OrderCases.{full_half}

@@ -1,24 +1,24 @@
 -- Each step of a line leads the core on by calls.
 use Rattle.std.specs.List.{AllByRecursion}
 use Rattle.std.proofs.Common.{◌≡◌, ◌≢◌, inl, inr, ℕ, cond, List, [], ◌∷◌, Option, Some, None, is_some, refl, sym, ◌∙◌, ap, subst}
-use Rattle.hse_rows.specs.Timeline.{for_some}
-use Rattle.hse_rows.specs.Job.{JobWish}
-use Rattle.hse_rows.specs.Replies as replies
-use Rattle.hse_rows.specs.Replies.{Refusal, Answer}
-use Rattle.hse_rows.specs.Calls.{Call}
-use Rattle.hse_rows.specs.Calls as call
-use Rattle.hse_rows.specs.Core.{Core, life}
-use Rattle.hse_rows.specs.CoreRefusal as core
-use Rattle.hse_rows.specs.CoreDone as leads
-use Rattle.hse_rows.specs.Schedule.{next_wish}
-use Rattle.hse_rows.specs.CoreStep.{Found, loads, breaks_off, has_version}
-use Rattle.hse_rows.specs.ScriptLines.{nobody, someone, Line, begin, write_by, get, commit, abort, list_stores, tree, info, open_cursor, seek, seek_range, read, update, close_cursor, pick, build, drop_job, next_job, take, take_install, write_turn, end_turn, turn, job, auto, reopen, silent, bad}
-use Rattle.hse_rows.specs.Script.{Script, order_of, job_named}
-use Rattle.hse_rows.specs.ScriptNames.{refusal_named, answer_named, told}
-use Rattle.hse_rows.specs.ScriptRefusal.{refusal, with_built, job_refusal, or_later}
-use Rattle.hse_rows.specs.ScriptDone.{reply, done, refused_to, failing, once_picked, job_refused}
-use Rattle.hse_rows.specs.ScriptStep.{LacksMemory, Reopens, Step}
-use Rattle.hse_rows.specs.ScriptCalls.{LeadsAnswered, turn_calls, job_calls, calls_of}
+use Rattle.hse_rows.specs.transactions.Timeline.{for_some}
+use Rattle.hse_rows.specs.rows.Job.{JobWish}
+use Rattle.hse_rows.specs.machine.Replies as replies
+use Rattle.hse_rows.specs.machine.Replies.{Refusal, Answer}
+use Rattle.hse_rows.specs.machine.Calls.{Call}
+use Rattle.hse_rows.specs.machine.Calls as call
+use Rattle.hse_rows.specs.machine.Core.{Core, life}
+use Rattle.hse_rows.specs.machine.CoreRefusal as core
+use Rattle.hse_rows.specs.machine.CoreDone as leads
+use Rattle.hse_rows.specs.rows.Schedule.{next_wish}
+use Rattle.hse_rows.specs.machine.CoreStep.{Found, loads, breaks_off, has_version}
+use Rattle.hse_rows.specs.script.ScriptLines.{nobody, someone, Line, begin, write_by, get, commit, abort, list_stores, tree, info, open_cursor, seek, seek_range, read, update, close_cursor, pick, build, drop_job, next_job, take, take_install, write_turn, end_turn, turn, job, auto, reopen, silent, bad}
+use Rattle.hse_rows.specs.script.Script.{Script, order_of, job_named}
+use Rattle.hse_rows.specs.script.ScriptNames.{refusal_named, answer_named, told}
+use Rattle.hse_rows.specs.script.ScriptRefusal.{refusal, with_built, job_refusal, or_later}
+use Rattle.hse_rows.specs.script.ScriptDone.{reply, done, refused_to, failing, once_picked, job_refused}
+use Rattle.hse_rows.specs.script.ScriptStep.{LacksMemory, Reopens, Step}
+use Rattle.hse_rows.specs.script.ScriptCalls.{LeadsAnswered, turn_calls, job_calls, calls_of}
 use Rattle.hse_rows.proofs.CoreAnswers.{IsOther}
 use Rattle.hse_rows.proofs.ScriptGoes.{not_told}
 use Rattle.hse_rows.proofs.ScriptRuns.{built_answer, built_tells, refused_led, dropped_led}

@@ -3,17 +3,17 @@ use Rattle.std.proofs.Common.{◌≡◌, ℕ, ◌+◌, ◌==◌, ◌||◌, nat_l
 use Rattle.std.specs.Prelude.{codes}
 use Rattle.hse_rows.specs.declared.store.Mode.TheVariants.{Plain, Tx}
 use Rattle.hse_rows.specs.declared.change.Change.TheVariants.{Put}
-use Rattle.hse_rows.specs.NormalForm.{normal_form}
-use Rattle.hse_rows.specs.Charge.{charge_of}
-use Rattle.hse_rows.specs.Sizes.{Sizes}
-use Rattle.hse_rows.specs.ManifestRoom.{gained}
-use Rattle.hse_rows.specs.Replies.{bad_line, store_exists, no_store, store_mode, key_length, value_length, prefix_length, broken, log_full, txn_size, ok, listed, figures}
-use Rattle.hse_rows.specs.Core.{Core, whole_room, left_room, longest_key, longest_value}
-use Rattle.hse_rows.specs.CoreRefusal.{refuse, key_refusal, value_refusal, size_refusal, room_refusal}
-use Rattle.hse_rows.specs.ScriptLines.{Line, list_stores, get, info, bad}
-use Rattle.hse_rows.specs.Script.{Script}
-use Rattle.hse_rows.specs.ScriptRefusal.{refusal}
-use Rattle.hse_rows.specs.ScriptDone.{reply, done, failing}
+use Rattle.hse_rows.specs.writes.NormalForm.{normal_form}
+use Rattle.hse_rows.specs.writes.Charge.{charge_of}
+use Rattle.hse_rows.specs.machine.Sizes.{Sizes}
+use Rattle.hse_rows.specs.machine.ManifestRoom.{gained}
+use Rattle.hse_rows.specs.machine.Replies.{bad_line, store_exists, no_store, store_mode, key_length, value_length, prefix_length, broken, log_full, txn_size, ok, listed, figures}
+use Rattle.hse_rows.specs.machine.Core.{Core, whole_room, left_room, longest_key, longest_value}
+use Rattle.hse_rows.specs.machine.CoreRefusal.{refuse, key_refusal, value_refusal, size_refusal, room_refusal}
+use Rattle.hse_rows.specs.script.ScriptLines.{Line, list_stores, get, info, bad}
+use Rattle.hse_rows.specs.script.Script.{Script}
+use Rattle.hse_rows.specs.script.ScriptRefusal.{refusal}
+use Rattle.hse_rows.specs.script.ScriptDone.{reply, done, failing}
 use Rattle.hse_rows.proofs.CaseLines.{outside, create_store, drop_store, put, formatted, failed, number_of}
 
 -- 64 slots of 65,536 bytes, halves of 65,536 and segments of 262,144

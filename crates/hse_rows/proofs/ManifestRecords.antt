@@ -3,25 +3,25 @@ use Rattle.std.specs.List.{AllByRecursion}
 use Rattle.std.proofs.Common.{◌≡◌, ℕ, ◌+◌, ◌<◌, ◌≤◌, ◌==◌, nat_lt, Bool, true, false, cond, List, [], ◌∷◌, ◌++◌, length, Option, Some, None, is_some, refl, sym, ◌∙◌, ap, subst, arith, append_assoc, length-append}
 use Rattle.std.proofs.lemmas.Bool.Decides.{nat_tests}
 use Rattle.hse_rows.specs.declared.write.Write.{Write}
-use Rattle.hse_rows.specs.State.{store_named}
-use Rattle.hse_rows.specs.History.{Event, commits, creates, drops, last_number}
-use Rattle.hse_rows.specs.Transaction.{Transaction}
-use Rattle.hse_rows.specs.NormalForm.{normal_form}
-use Rattle.hse_rows.specs.Moves as move
-use Rattle.hse_rows.specs.Timeline.{Timeline, transaction_of, snapshot_of, for_some, committing}
-use Rattle.hse_rows.specs.Log.{LogState, Frozen}
-use Rattle.hse_rows.specs.Layout.{NewSet}
-use Rattle.hse_rows.specs.ManifestRoom.{ManifestState, head_bytes, fits}
-use Rattle.hse_rows.specs.ManifestEntry.{ManifestEntry, whole_need, taken_above, entered, creation_entry, drop_entry, install_entry}
-use Rattle.hse_rows.specs.Job.{JobWish, ingest, of_run, Work, ingesting, on_run, Job, job_of, live_ingest, first_on, is_built}
-use Rattle.hse_rows.specs.Turn.{TurnWish, sync, freeze, create, drop, Plan, settles, enters, removes, installs, TakenTurn, Turn, home, taken, ran, written}
-use Rattle.hse_rows.specs.Turn as turns
-use Rattle.hse_rows.specs.Replies as replies
-use Rattle.hse_rows.specs.Calls.{outside, inside, Call, begin, write_by, get, commit, abort, list_stores, tree, info, take_place, give_place, pick, build, drop_job, next_job, take, take_install, write_turn, end_turn, reopen}
-use Rattle.hse_rows.specs.Core.{Core, now, number_of, oldest, write_to, with_move}
-use Rattle.hse_rows.specs.CoreRefusal.{refusal, is_spent, first_in_store, entry_refusal, take_refusal, install_refusal, drop_refusal, unless_run_well}
-use Rattle.hse_rows.specs.CoreDone.{taking_install, done, refused_to, failing, committing_write, with_turn_up_to, with_installing, log_with, frozen_log, taking, oldest_gone, picking, building, planned, ending, ending_failed, given_up}
-use Rattle.hse_rows.specs.Recorded.{taken_in, AreLayers, above, due_by, due, PlanRecords, TurnRecords, BreaksBy}
+use Rattle.hse_rows.specs.states.State.{store_named}
+use Rattle.hse_rows.specs.states.History.{Event, commits, creates, drops, last_number}
+use Rattle.hse_rows.specs.transactions.Transaction.{Transaction}
+use Rattle.hse_rows.specs.writes.NormalForm.{normal_form}
+use Rattle.hse_rows.specs.transactions.Moves as move
+use Rattle.hse_rows.specs.transactions.Timeline.{Timeline, transaction_of, snapshot_of, for_some, committing}
+use Rattle.hse_rows.specs.machine.Log.{LogState, Frozen}
+use Rattle.hse_rows.specs.rows.Layout.{NewSet}
+use Rattle.hse_rows.specs.machine.ManifestRoom.{ManifestState, head_bytes, fits}
+use Rattle.hse_rows.specs.machine.ManifestEntry.{ManifestEntry, whole_need, taken_above, entered, creation_entry, drop_entry, install_entry}
+use Rattle.hse_rows.specs.rows.Job.{JobWish, ingest, of_run, Work, ingesting, on_run, Job, job_of, live_ingest, first_on, is_built}
+use Rattle.hse_rows.specs.machine.Turn.{TurnWish, sync, freeze, create, drop, Plan, settles, enters, removes, installs, TakenTurn, Turn, home, taken, ran, written}
+use Rattle.hse_rows.specs.machine.Turn as turns
+use Rattle.hse_rows.specs.machine.Replies as replies
+use Rattle.hse_rows.specs.machine.Calls.{outside, inside, Call, begin, write_by, get, commit, abort, list_stores, tree, info, take_place, give_place, pick, build, drop_job, next_job, take, take_install, write_turn, end_turn, reopen}
+use Rattle.hse_rows.specs.machine.Core.{Core, now, number_of, oldest, write_to, with_move}
+use Rattle.hse_rows.specs.machine.CoreRefusal.{refusal, is_spent, first_in_store, entry_refusal, take_refusal, install_refusal, drop_refusal, unless_run_well}
+use Rattle.hse_rows.specs.machine.CoreDone.{taking_install, done, refused_to, failing, committing_write, with_turn_up_to, with_installing, log_with, frozen_log, taking, oldest_gone, picking, building, planned, ending, ending_failed, given_up}
+use Rattle.hse_rows.specs.machine.Recorded.{taken_in, AreLayers, above, due_by, due, PlanRecords, TurnRecords, BreaksBy}
 use Rattle.hse_rows.proofs.PassLemmas.{passes, not_busy, not_held, not_busy_with, found, found_job}
 use Rattle.hse_rows.proofs.RecordLemmas.{taken_push}
 use Rattle.hse_rows.proofs.CoreRecords.{none_added, horizon_below, leaves}

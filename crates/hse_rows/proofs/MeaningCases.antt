@@ -4,7 +4,7 @@ use Rattle.std.specs.Prelude.{codes}
 use Rattle.hse_rows.specs.declared.change.Change.{Change}
 use Rattle.hse_rows.specs.declared.change.Change.TheVariants.{Put, Del, PDel}
 use Rattle.hse_rows.specs.declared.row.Row.{Row}
-use Rattle.hse_rows.specs.Meaning.{own_at, covered_at, said, with_row}
+use Rattle.hse_rows.specs.rows.Meaning.{own_at, covered_at, said, with_row}
 
 abbrev numbered : ℕ → Change → Row
 numbered number change = record { number = number; change = change }

@@ -5,11 +5,11 @@ use Rattle.std.specs.Option.{option_map}
 use Rattle.std.proofs.lemmas.Option.{same_Some, slice_get-map}
 use Rattle.hse_rows.specs.declared.store.Mode.{Mode}
 use Rattle.hse_rows.specs.declared.store.Mode.TheVariants.{Plain, Tx}
-use Rattle.hse_rows.specs.State.{Store, State, AreRising, applied_all}
-use Rattle.hse_rows.specs.Holding.{written_all, applied_all-stores}
-use Rattle.hse_rows.specs.History.{Event, commits, creates, drops, new_store, happened, folded}
-use Rattle.hse_rows.specs.Folding.{happened-number}
-use Rattle.hse_rows.specs.Timeline.{HasStore}
+use Rattle.hse_rows.specs.states.State.{Store, State, AreRising, applied_all}
+use Rattle.hse_rows.specs.laws.Holding.{written_all, applied_all-stores}
+use Rattle.hse_rows.specs.states.History.{Event, commits, creates, drops, new_store, happened, folded}
+use Rattle.hse_rows.specs.laws.Folding.{happened-number}
+use Rattle.hse_rows.specs.transactions.Timeline.{HasStore}
 use Rattle.hse_rows.proofs.PlaceLemmas.{get_push}
 use Rattle.hse_rows.proofs.StatesLemmas.{happened_rising}
 

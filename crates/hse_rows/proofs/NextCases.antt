@@ -4,17 +4,17 @@ use Rattle.std.specs.Prelude.{codes, replicate}
 use Rattle.hse_rows.specs.declared.store.Mode.TheVariants.{Plain}
 use Rattle.hse_rows.specs.declared.change.Change.TheVariants.{Del}
 use Rattle.hse_rows.specs.declared.row.Row.{Row}
-use Rattle.hse_rows.specs.NormalForm.{normal_form}
-use Rattle.hse_rows.specs.Newest.{newest}
-use Rattle.hse_rows.specs.History.{new_store}
-use Rattle.hse_rows.specs.Log.{new_log, Frozen}
-use Rattle.hse_rows.specs.Layout.{RowsInBlocks, Node, Layout}
-use Rattle.hse_rows.specs.Job.{keys, values, spill, JobWish, ingest, of_run, ingesting, on_run, Job, picked}
-use Rattle.hse_rows.specs.Turn.{freeze, create}
-use Rattle.hse_rows.specs.Replies.{accepted, ok, none, sets, pick_next}
-use Rattle.hse_rows.specs.Core.{Core, life, new_manifest}
-use Rattle.hse_rows.specs.Schedule.{next_wish}
-use Rattle.hse_rows.specs.ScriptLines.{pick, next_job, tree, turn, auto}
+use Rattle.hse_rows.specs.writes.NormalForm.{normal_form}
+use Rattle.hse_rows.specs.rows.Newest.{newest}
+use Rattle.hse_rows.specs.states.History.{new_store}
+use Rattle.hse_rows.specs.machine.Log.{new_log, Frozen}
+use Rattle.hse_rows.specs.rows.Layout.{RowsInBlocks, Node, Layout}
+use Rattle.hse_rows.specs.rows.Job.{keys, values, spill, JobWish, ingest, of_run, ingesting, on_run, Job, picked}
+use Rattle.hse_rows.specs.machine.Turn.{freeze, create}
+use Rattle.hse_rows.specs.machine.Replies.{accepted, ok, none, sets, pick_next}
+use Rattle.hse_rows.specs.machine.Core.{Core, life, new_manifest}
+use Rattle.hse_rows.specs.rows.Schedule.{next_wish}
+use Rattle.hse_rows.specs.script.ScriptLines.{pick, next_job, tree, turn, auto}
 use Rattle.hse_rows.proofs.RowCases.{device, started, answers, put_out, a, b, s, one}
 
 -- ---- a layout of the stores s, 1, and b, 2, of which a third was dropped

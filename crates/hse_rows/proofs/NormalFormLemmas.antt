@@ -8,9 +8,9 @@ use Rattle.std.proofs.Math.Bool.{true≢false}
 use Rattle.hse_rows.specs.declared.change.Change.{Change}
 use Rattle.hse_rows.specs.declared.change.Change.TheVariants.{Put, Del, PDel}
 use Rattle.hse_rows.specs.declared.write.Write.{Write}
-use Rattle.hse_rows.specs.Change.{target}
-use Rattle.hse_rows.specs.Sorted.{placed, sorted}
-use Rattle.hse_rows.specs.NormalForm.{hides, rank, write_cmp, lasting}
+use Rattle.hse_rows.specs.writes.Change.{target}
+use Rattle.hse_rows.specs.writes.Sorted.{placed, sorted}
+use Rattle.hse_rows.specs.writes.NormalForm.{hides, rank, write_cmp, lasting}
 
 pub or_left : (a b : Bool) → (a || b) ≡ false → a ≡ false
 or_left true b e = e

@@ -4,16 +4,16 @@ use Rattle.std.specs.Prelude.{codes}
 use Rattle.hse_rows.specs.declared.store.Mode.{Mode}
 use Rattle.hse_rows.specs.declared.store.Mode.TheVariants.{Plain, Tx}
 use Rattle.hse_rows.specs.declared.change.Change.TheVariants.{Put}
-use Rattle.hse_rows.specs.Change.{write_of}
-use Rattle.hse_rows.specs.NormalForm.{normal_form}
-use Rattle.hse_rows.specs.History.{new_store}
-use Rattle.hse_rows.specs.Log.{LogState, new_log, logged}
-use Rattle.hse_rows.specs.ManifestRoom.{ManifestState}
-use Rattle.hse_rows.specs.Replies.{store_exists, no_store, store_mode, key_length, value_length, prefix_length, broken, too_many, spent, manifest_full, txn_size, log_full}
-use Rattle.hse_rows.specs.Core.{life, new_manifest}
-use Rattle.hse_rows.specs.ScriptLines.{get}
-use Rattle.hse_rows.specs.Script.{Script, begins_with}
-use Rattle.hse_rows.specs.ScriptRefusal.{refusal}
+use Rattle.hse_rows.specs.writes.Change.{write_of}
+use Rattle.hse_rows.specs.writes.NormalForm.{normal_form}
+use Rattle.hse_rows.specs.states.History.{new_store}
+use Rattle.hse_rows.specs.machine.Log.{LogState, new_log, logged}
+use Rattle.hse_rows.specs.machine.ManifestRoom.{ManifestState}
+use Rattle.hse_rows.specs.machine.Replies.{store_exists, no_store, store_mode, key_length, value_length, prefix_length, broken, too_many, spent, manifest_full, txn_size, log_full}
+use Rattle.hse_rows.specs.machine.Core.{life, new_manifest}
+use Rattle.hse_rows.specs.script.ScriptLines.{get}
+use Rattle.hse_rows.specs.script.Script.{Script, begins_with}
+use Rattle.hse_rows.specs.script.ScriptRefusal.{refusal}
 use Rattle.hse_rows.proofs.CaseLines.{outside, create_store, drop_store, put, del, without_sets}
 use Rattle.hse_rows.proofs.MachineCases.{small}
 use Rattle.hse_rows.proofs.RoomCases.{with_stores}

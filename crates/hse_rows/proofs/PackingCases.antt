@@ -4,7 +4,7 @@ use Rattle.std.specs.Prelude.{codes, map, replicate}
 use Rattle.hse_rows.specs.declared.change.Change.{Change}
 use Rattle.hse_rows.specs.declared.change.Change.TheVariants.{Put, Del, PDel}
 use Rattle.hse_rows.specs.declared.row.Row.{Row}
-use Rattle.hse_rows.specs.Packing.{filled, prefix_blocks, key_pages, key_blocks, value_blocks}
+use Rattle.hse_rows.specs.rows.Packing.{filled, prefix_blocks, key_pages, key_blocks, value_blocks}
 
 abbrev numbered : ℕ → Change → Row
 numbered number change = record { number = number; change = change }

@@ -6,18 +6,18 @@ use Rattle.hse_rows.specs.declared.store.Mode.{Mode}
 use Rattle.hse_rows.specs.declared.store.Mode.TheVariants.{Plain, Tx}
 use Rattle.hse_rows.specs.declared.change.Change.{Change}
 use Rattle.hse_rows.specs.declared.change.Change.TheVariants.{Put, Del, PDel}
-use Rattle.hse_rows.specs.NormalForm.{same}
-use Rattle.hse_rows.specs.State.{Store, State, store_named}
-use Rattle.hse_rows.specs.Transaction.{TransactionState, active, committed, aborted, Transaction}
-use Rattle.hse_rows.specs.Conflict.{Conflict, held, since}
-use Rattle.hse_rows.specs.Timeline.{transaction_of, HasStore, IsActive, for_some}
-use Rattle.hse_rows.specs.Job.{Job, JobState, job_of}
-use Rattle.hse_rows.specs.Turn.{Turn, home, taken, ran}
-use Rattle.hse_rows.specs.Replies.{Refusal, no_name}
-use Rattle.hse_rows.specs.Replies as replies
-use Rattle.hse_rows.specs.Sizes.{Sizes}
-use Rattle.hse_rows.specs.Core.{Core, whole_room, longest_key, longest_value}
-use Rattle.hse_rows.specs.CoreRefusal.{refuse, key_refusal, value_refusal, change_refusal, size_refusal, is_tx, unless_ended, in_transaction, unless_canceled, unless_busy, unless_busy_with, unless_held, with_job}
+use Rattle.hse_rows.specs.writes.NormalForm.{same}
+use Rattle.hse_rows.specs.states.State.{Store, State, store_named}
+use Rattle.hse_rows.specs.transactions.Transaction.{TransactionState, active, committed, aborted, Transaction}
+use Rattle.hse_rows.specs.transactions.Conflict.{Conflict, held, since}
+use Rattle.hse_rows.specs.transactions.Timeline.{transaction_of, HasStore, IsActive, for_some}
+use Rattle.hse_rows.specs.rows.Job.{Job, JobState, job_of}
+use Rattle.hse_rows.specs.machine.Turn.{Turn, home, taken, ran}
+use Rattle.hse_rows.specs.machine.Replies.{Refusal, no_name}
+use Rattle.hse_rows.specs.machine.Replies as replies
+use Rattle.hse_rows.specs.machine.Sizes.{Sizes}
+use Rattle.hse_rows.specs.machine.Core.{Core, whole_room, longest_key, longest_value}
+use Rattle.hse_rows.specs.machine.CoreRefusal.{refuse, key_refusal, value_refusal, change_refusal, size_refusal, is_tx, unless_ended, in_transaction, unless_canceled, unless_busy, unless_busy_with, unless_held, with_job}
 
 -- a test that does not refuse
 pub passes : (test : Bool) (reason : Refusal ℕ) (later : Option (Refusal ℕ)) → refuse test reason later ≡ None → (test ≡ false) × (later ≡ None)

@@ -2,15 +2,15 @@
 use Rattle.std.proofs.Common.{◌≡◌, [], ◌∷◌, refl}
 use Rattle.std.specs.Prelude.{codes}
 use Rattle.hse_rows.specs.declared.store.Mode.TheVariants.{Plain, Tx}
-use Rattle.hse_rows.specs.NormalForm.{normal_form}
-use Rattle.hse_rows.specs.Newest.{newest}
-use Rattle.hse_rows.specs.Cursor.{forward, backward}
-use Rattle.hse_rows.specs.Job.{ingest, of_run, spill, built}
-use Rattle.hse_rows.specs.Turn.{sync, freeze, create, is_home, is_run}
-use Rattle.hse_rows.specs.Replies.{accepted, ok, written, refused, name_used, no_name, ended_by, by_abort, no_store, broken, turn_is, forward_only, depth, job_state}
-use Rattle.hse_rows.specs.ScriptLines.{nobody, someone, begin, abort, open_cursor, seek_range, close_cursor, pick, build, take, take_install, write_turn, end_turn, turn, job}
-use Rattle.hse_rows.specs.Script.{Script}
-use Rattle.hse_rows.specs.ScriptDone.{failing}
+use Rattle.hse_rows.specs.writes.NormalForm.{normal_form}
+use Rattle.hse_rows.specs.rows.Newest.{newest}
+use Rattle.hse_rows.specs.script.Cursor.{forward, backward}
+use Rattle.hse_rows.specs.rows.Job.{ingest, of_run, spill, built}
+use Rattle.hse_rows.specs.machine.Turn.{sync, freeze, create, is_home, is_run}
+use Rattle.hse_rows.specs.machine.Replies.{accepted, ok, written, refused, name_used, no_name, ended_by, by_abort, no_store, broken, turn_is, forward_only, depth, job_state}
+use Rattle.hse_rows.specs.script.ScriptLines.{nobody, someone, begin, abort, open_cursor, seek_range, close_cursor, pick, build, take, take_install, write_turn, end_turn, turn, job}
+use Rattle.hse_rows.specs.script.Script.{Script}
+use Rattle.hse_rows.specs.script.ScriptDone.{failing}
 use Rattle.hse_rows.proofs.RowCases.{device, started, led, answers, put_in, put_out, a, b, s, one}
 
 -- a store with one put that waits for the device, and a sync that was taken

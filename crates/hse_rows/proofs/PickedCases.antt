@@ -2,21 +2,21 @@
 use Rattle.std.proofs.Common.{◌≡◌, inl, inr, ℕ, ◌≤◌, [], ◌∷◌, refl, arith}
 use Rattle.std.specs.Prelude.{codes}
 use Rattle.hse_rows.specs.declared.store.Mode.TheVariants.{Plain}
-use Rattle.hse_rows.specs.NormalForm.{normal_form}
-use Rattle.hse_rows.specs.Newest.{newest}
-use Rattle.hse_rows.specs.Sizes.{Sizes}
-use Rattle.hse_rows.specs.Job.{ingest}
-use Rattle.hse_rows.specs.Turn.{freeze, create, Turn, home, taken, ran}
-use Rattle.hse_rows.specs.Replies.{accepted, broken, device_fault, full, node_busy, ok, refused, written}
-use Rattle.hse_rows.specs.Calls as call
-use Rattle.hse_rows.specs.Core.{formatted, life}
-use Rattle.hse_rows.specs.Recorded.{taken_in, due, IsRecorded, IsInOrder}
-use Rattle.hse_rows.specs.ScriptLines.{pick, build, take, take_install, turn, job, auto}
-use Rattle.hse_rows.specs.Script.{Script}
-use Rattle.hse_rows.specs.ScriptDone.{failing, once_picked}
-use Rattle.hse_rows.specs.ScriptStep.{LacksMemory}
-use Rattle.hse_rows.specs.ScriptCalls.{told_by, calls_of}
-use Rattle.hse_rows.specs.ScriptLaws.{IsLoadable}
+use Rattle.hse_rows.specs.writes.NormalForm.{normal_form}
+use Rattle.hse_rows.specs.rows.Newest.{newest}
+use Rattle.hse_rows.specs.machine.Sizes.{Sizes}
+use Rattle.hse_rows.specs.rows.Job.{ingest}
+use Rattle.hse_rows.specs.machine.Turn.{freeze, create, Turn, home, taken, ran}
+use Rattle.hse_rows.specs.machine.Replies.{accepted, broken, device_fault, full, node_busy, ok, refused, written}
+use Rattle.hse_rows.specs.machine.Calls as call
+use Rattle.hse_rows.specs.machine.Core.{formatted, life}
+use Rattle.hse_rows.specs.machine.Recorded.{taken_in, due, IsRecorded, IsInOrder}
+use Rattle.hse_rows.specs.script.ScriptLines.{pick, build, take, take_install, turn, job, auto}
+use Rattle.hse_rows.specs.script.Script.{Script}
+use Rattle.hse_rows.specs.script.ScriptDone.{failing, once_picked}
+use Rattle.hse_rows.specs.script.ScriptStep.{LacksMemory}
+use Rattle.hse_rows.specs.script.ScriptCalls.{told_by, calls_of}
+use Rattle.hse_rows.specs.laws.ScriptLaws.{IsLoadable}
 use Rattle.hse_rows.proofs.RowCases.{device, started, led, answers, put_out, a, b, s, one}
 
 -- ---- jobs that are refused after their pick

@@ -9,18 +9,18 @@ use Rattle.hse_rows.specs.declared.store.Mode.TheVariants.{Plain, Tx}
 use Rattle.hse_rows.specs.declared.change.Change.{Change}
 use Rattle.hse_rows.specs.declared.change.Change.TheVariants.{Put, Del, PDel}
 use Rattle.hse_rows.specs.declared.write.Write.{Write}
-use Rattle.hse_rows.specs.Change.{write_of}
-use Rattle.hse_rows.specs.NormalForm.{normal_form}
-use Rattle.hse_rows.specs.Newest.{newest}
-use Rattle.hse_rows.specs.Holding.{get-contents_after_all}
-use Rattle.hse_rows.specs.Job.{ingest, of_run, keys, values, spill}
-use Rattle.hse_rows.specs.Turn.{freeze, create}
-use Rattle.hse_rows.specs.Replies.{ok, value, none, sets, ListedSet}
-use Rattle.hse_rows.specs.CoreReply.{found_value}
-use Rattle.hse_rows.specs.ScriptLines.{nobody, someone, begin, write_by, get, commit, turn, tree, job}
-use Rattle.hse_rows.specs.Script.{Script}
-use Rattle.hse_rows.specs.ScriptNames.{answer_named}
-use Rattle.hse_rows.specs.ScriptDone.{reply}
+use Rattle.hse_rows.specs.writes.Change.{write_of}
+use Rattle.hse_rows.specs.writes.NormalForm.{normal_form}
+use Rattle.hse_rows.specs.rows.Newest.{newest}
+use Rattle.hse_rows.specs.laws.Holding.{get-contents_after_all}
+use Rattle.hse_rows.specs.rows.Job.{ingest, of_run, keys, values, spill}
+use Rattle.hse_rows.specs.machine.Turn.{freeze, create}
+use Rattle.hse_rows.specs.machine.Replies.{ok, value, none, sets, ListedSet}
+use Rattle.hse_rows.specs.machine.CoreReply.{found_value}
+use Rattle.hse_rows.specs.script.ScriptLines.{nobody, someone, begin, write_by, get, commit, turn, tree, job}
+use Rattle.hse_rows.specs.script.Script.{Script}
+use Rattle.hse_rows.specs.script.ScriptNames.{answer_named}
+use Rattle.hse_rows.specs.script.ScriptDone.{reply}
 use Rattle.hse_rows.proofs.RowCases.{device, started, led, answers, put_in, put_out, a, b, s, one}
 
 abbrev of : Change → Write

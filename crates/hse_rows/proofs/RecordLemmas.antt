@@ -1,8 +1,8 @@
 -- The commits and the taken numbers of a history with one event more.
 use Rattle.std.proofs.Common.{◌≡◌, ℕ, ◌+◌, List, [], ◌∷◌, ◌++◌, length, sym, ◌∙◌, ap, arith}
-use Rattle.hse_rows.specs.History.{Event, commits, creates, drops}
-use Rattle.hse_rows.specs.Log.{Numbered}
-use Rattle.hse_rows.specs.Recorded.{commits_in, taken_in}
+use Rattle.hse_rows.specs.states.History.{Event, commits, creates, drops}
+use Rattle.hse_rows.specs.machine.Log.{Numbered}
+use Rattle.hse_rows.specs.machine.Recorded.{commits_in, taken_in}
 
 -- one event more
 pub commits_push : (number : ℕ) (events : List Event) (event : Event)

@@ -9,21 +9,21 @@ use Rattle.std.specs.FinMap as fin_map
 use Rattle.hse_rows.specs.declared.store.Mode.TheVariants.{Plain}
 use Rattle.hse_rows.specs.declared.change.Change.TheVariants.{Put}
 use Rattle.hse_rows.specs.declared.write.Write.{Write}
-use Rattle.hse_rows.specs.Change.{write_of}
-use Rattle.hse_rows.specs.NormalForm.{normal_form}
-use Rattle.hse_rows.specs.Holding.{get-contents_after_all}
-use Rattle.hse_rows.specs.History.{new_store}
-use Rattle.hse_rows.specs.Log.{new_log}
-use Rattle.hse_rows.specs.Replies.{superblock, manifest_half, store_exists, no_store, key_length, prefix_length, broken, not_formed, other_version, ok, value, none, listed, refused, no_memory, device_fault}
-use Rattle.hse_rows.specs.Core.{Stored}
-use Rattle.hse_rows.specs.CoreReply.{found_value}
-use Rattle.hse_rows.specs.CoreStep.{Found, loads, breaks_off, has_version}
-use Rattle.hse_rows.specs.ScriptLines.{Line, list_stores, get, info, reopen, silent}
-use Rattle.hse_rows.specs.Script.{Script}
-use Rattle.hse_rows.specs.ScriptNames.{answer_named}
-use Rattle.hse_rows.specs.ScriptRefusal.{refusal}
-use Rattle.hse_rows.specs.ScriptDone.{reply, done, failing}
-use Rattle.hse_rows.specs.ScriptStep.{MayFail, Step, answer_of, led_to}
+use Rattle.hse_rows.specs.writes.Change.{write_of}
+use Rattle.hse_rows.specs.writes.NormalForm.{normal_form}
+use Rattle.hse_rows.specs.laws.Holding.{get-contents_after_all}
+use Rattle.hse_rows.specs.states.History.{new_store}
+use Rattle.hse_rows.specs.machine.Log.{new_log}
+use Rattle.hse_rows.specs.machine.Replies.{superblock, manifest_half, store_exists, no_store, key_length, prefix_length, broken, not_formed, other_version, ok, value, none, listed, refused, no_memory, device_fault}
+use Rattle.hse_rows.specs.machine.Core.{Stored}
+use Rattle.hse_rows.specs.machine.CoreReply.{found_value}
+use Rattle.hse_rows.specs.machine.CoreStep.{Found, loads, breaks_off, has_version}
+use Rattle.hse_rows.specs.script.ScriptLines.{Line, list_stores, get, info, reopen, silent}
+use Rattle.hse_rows.specs.script.Script.{Script}
+use Rattle.hse_rows.specs.script.ScriptNames.{answer_named}
+use Rattle.hse_rows.specs.script.ScriptRefusal.{refusal}
+use Rattle.hse_rows.specs.script.ScriptDone.{reply, done, failing}
+use Rattle.hse_rows.specs.script.ScriptStep.{MayFail, Step, answer_of, led_to}
 use Rattle.hse_rows.proofs.CaseLines.{outside, create_store, drop_store, sync, put, del, without_sets, failed, number_of}
 use Rattle.hse_rows.proofs.MachineCases.{small, fresh, one_store, a_put}
 

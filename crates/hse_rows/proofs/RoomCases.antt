@@ -3,25 +3,25 @@ use Rattle.std.proofs.Common.{◌≡◌, ℕ, ◌+◌, ◌-◌, ◌*◌, ◌/◌
 use Rattle.std.specs.Prelude.{codes}
 use Rattle.std.specs.List.{range_with_len}
 use Rattle.hse_rows.specs.declared.store.Mode.TheVariants.{Plain, Tx}
-use Rattle.hse_rows.specs.NormalForm.{normal_form}
-use Rattle.hse_rows.specs.State.{Store}
-use Rattle.hse_rows.specs.History.{drops, new_store}
-use Rattle.hse_rows.specs.Log.{new_log}
-use Rattle.hse_rows.specs.TakenRuns.{runs_of}
-use Rattle.hse_rows.specs.ManifestRoom.{batch_bytes, base_bytes}
-use Rattle.hse_rows.specs.Replies.{store_exists, broken, too_many, spent, manifest_full, txn_size, log_full, ok, figures}
-use Rattle.hse_rows.specs.Job.{keys, Job, ingesting, on_run}
-use Rattle.hse_rows.specs.Job as job
-use Rattle.hse_rows.specs.Turn as turn
-use Rattle.hse_rows.specs.Core.{Core, life, new_manifest}
-use Rattle.hse_rows.specs.Core as core
-use Rattle.hse_rows.specs.Limits.{IsWithinLimits}
-use Rattle.hse_rows.specs.CoreStep.{loads}
-use Rattle.hse_rows.specs.CoreLaws.{LoadsWithinLimits, WorkFits}
-use Rattle.hse_rows.specs.ScriptLines.{Line, get, info}
-use Rattle.hse_rows.specs.Script.{Script, begins_with}
-use Rattle.hse_rows.specs.ScriptRefusal.{refusal}
-use Rattle.hse_rows.specs.ScriptDone.{reply, done}
+use Rattle.hse_rows.specs.writes.NormalForm.{normal_form}
+use Rattle.hse_rows.specs.states.State.{Store}
+use Rattle.hse_rows.specs.states.History.{drops, new_store}
+use Rattle.hse_rows.specs.machine.Log.{new_log}
+use Rattle.hse_rows.specs.machine.TakenRuns.{runs_of}
+use Rattle.hse_rows.specs.machine.ManifestRoom.{batch_bytes, base_bytes}
+use Rattle.hse_rows.specs.machine.Replies.{store_exists, broken, too_many, spent, manifest_full, txn_size, log_full, ok, figures}
+use Rattle.hse_rows.specs.rows.Job.{keys, Job, ingesting, on_run}
+use Rattle.hse_rows.specs.rows.Job as job
+use Rattle.hse_rows.specs.machine.Turn as turn
+use Rattle.hse_rows.specs.machine.Core.{Core, life, new_manifest}
+use Rattle.hse_rows.specs.machine.Core as core
+use Rattle.hse_rows.specs.machine.Limits.{IsWithinLimits}
+use Rattle.hse_rows.specs.machine.CoreStep.{loads}
+use Rattle.hse_rows.specs.laws.CoreLaws.{LoadsWithinLimits, WorkFits}
+use Rattle.hse_rows.specs.script.ScriptLines.{Line, get, info}
+use Rattle.hse_rows.specs.script.Script.{Script, begins_with}
+use Rattle.hse_rows.specs.script.ScriptRefusal.{refusal}
+use Rattle.hse_rows.specs.script.ScriptDone.{reply, done}
 use Rattle.hse_rows.proofs.CaseLines.{outside, create_store, drop_store, sync, del, formatted, without_sets, loaded, failed, with_manifest, with_sizes}
 use Rattle.hse_rows.proofs.MachineCases.{small, fresh, a_put}
 

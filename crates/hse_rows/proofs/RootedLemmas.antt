@@ -3,11 +3,11 @@ use Rattle.std.proofs.Common.{◌≡◌, ℕ, ◌+◌, ◌<◌, ◌≤◌, ◌==
 use Rattle.std.specs.FinMap as fin_map
 use Rattle.std.proofs.lemmas.Bool.{ne_eqb}
 use Rattle.hse_rows.specs.declared.write.Write.{Write}
-use Rattle.hse_rows.specs.State.{Contents, Store, State, changed, contents_after_all, applied, applied_all}
-use Rattle.hse_rows.specs.Holding.{written_all, applied_all-stores}
-use Rattle.hse_rows.specs.History.{Event, commits, creates, drops, new_store, without, happened, folded}
-use Rattle.hse_rows.specs.Recorded.{commits_in}
-use Rattle.hse_rows.specs.Rooted.{writes_in, writes_of, bare, AreUpTo, AreRooted}
+use Rattle.hse_rows.specs.states.State.{Contents, Store, State, changed, contents_after_all, applied, applied_all}
+use Rattle.hse_rows.specs.laws.Holding.{written_all, applied_all-stores}
+use Rattle.hse_rows.specs.states.History.{Event, commits, creates, drops, new_store, without, happened, folded}
+use Rattle.hse_rows.specs.machine.Recorded.{commits_in}
+use Rattle.hse_rows.specs.states.Rooted.{writes_in, writes_of, bare, AreUpTo, AreRooted}
 
 pub applied_all-append : (state : State) (writes later : List Write) → applied_all state (writes ++ later) ≡ applied_all (applied_all state writes) later
 applied_all-append state [] later = refl

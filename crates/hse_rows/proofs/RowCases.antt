@@ -3,17 +3,17 @@ use Rattle.std.proofs.Common.{◌≡◌, ℕ, List, [], ◌∷◌, refl}
 use Rattle.std.specs.Prelude.{codes}
 use Rattle.hse_rows.specs.declared.store.Mode.TheVariants.{Plain, Tx}
 use Rattle.hse_rows.specs.declared.change.Change.TheVariants.{Put, Del, PDel}
-use Rattle.hse_rows.specs.NormalForm.{normal_form}
-use Rattle.hse_rows.specs.Newest.{newest}
-use Rattle.hse_rows.specs.Sizes.{Sizes}
-use Rattle.hse_rows.specs.Job.{ingest, of_run, keys, values, spill, picked, installing}
-use Rattle.hse_rows.specs.Turn.{syncing, sync, freeze, create, drop, is_home, is_taken}
-use Rattle.hse_rows.specs.Replies.{Answer, accepted, ok, written, none, listed, sets, figures, pick_next, refused, name_used, no_name, ended_by, by_commit, store_exists, no_store, prefix_length, too_many, busy, turn_is, full, log_busy, store_held, node_busy, canceled_held, canceled_since, no_run, job_state}
-use Rattle.hse_rows.specs.Core.{formatted, life}
-use Rattle.hse_rows.specs.CoreStep.{Found, has_version}
-use Rattle.hse_rows.specs.ScriptLines.{nobody, someone, Line, begin, write_by, commit, abort, list_stores, tree, info, pick, build, drop_job, next_job, take, take_install, write_turn, end_turn, turn, job, auto}
-use Rattle.hse_rows.specs.Script.{Script, begins_with}
-use Rattle.hse_rows.specs.ScriptStep.{answer_of, led_to}
+use Rattle.hse_rows.specs.writes.NormalForm.{normal_form}
+use Rattle.hse_rows.specs.rows.Newest.{newest}
+use Rattle.hse_rows.specs.machine.Sizes.{Sizes}
+use Rattle.hse_rows.specs.rows.Job.{ingest, of_run, keys, values, spill, picked, installing}
+use Rattle.hse_rows.specs.machine.Turn.{syncing, sync, freeze, create, drop, is_home, is_taken}
+use Rattle.hse_rows.specs.machine.Replies.{Answer, accepted, ok, written, none, listed, sets, figures, pick_next, refused, name_used, no_name, ended_by, by_commit, store_exists, no_store, prefix_length, too_many, busy, turn_is, full, log_busy, store_held, node_busy, canceled_held, canceled_since, no_run, job_state}
+use Rattle.hse_rows.specs.machine.Core.{formatted, life}
+use Rattle.hse_rows.specs.machine.CoreStep.{Found, has_version}
+use Rattle.hse_rows.specs.script.ScriptLines.{nobody, someone, Line, begin, write_by, commit, abort, list_stores, tree, info, pick, build, drop_job, next_job, take, take_install, write_turn, end_turn, turn, job, auto}
+use Rattle.hse_rows.specs.script.Script.{Script, begins_with}
+use Rattle.hse_rows.specs.script.ScriptStep.{answer_of, led_to}
 
 -- 64 slots of 65,536 bytes, halves of 65,536 and segments of 262,144
 abbrev pub device : Sizes

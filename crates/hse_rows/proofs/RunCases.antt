@@ -4,8 +4,8 @@ use Rattle.std.specs.Prelude.{codes, map}
 use Rattle.hse_rows.specs.declared.change.Change.{Change}
 use Rattle.hse_rows.specs.declared.change.Change.TheVariants.{Put, Del, PDel}
 use Rattle.hse_rows.specs.declared.row.Row.{Row}
-use Rattle.hse_rows.specs.Newest.{newest}
-use Rattle.hse_rows.specs.Layout.{RowsInBlocks, Node, Layout, sets_at, with_sets, children, has_children, is_last}
+use Rattle.hse_rows.specs.rows.Newest.{newest}
+use Rattle.hse_rows.specs.rows.Layout.{RowsInBlocks, Node, Layout, sets_at, with_sets, children, has_children, is_last}
 use Rattle.hse_rows.proofs.CaseLines.{compacted, keys_compacted, spilled}
 
 abbrev numbered : ℕ → Change → Row

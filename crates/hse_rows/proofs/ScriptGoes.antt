@@ -1,26 +1,26 @@
 -- Lines keep transactions apart.
 use Rattle.std.proofs.Common.{◌≡◌, inl, inr, ℕ, Bool, true, false, cond, List, [], ◌∷◌, Option, Some, None, is_some, refl, sym, ◌∙◌, subst}
-use Rattle.hse_rows.specs.State.{store_named}
-use Rattle.hse_rows.specs.Transaction.{read_of}
-use Rattle.hse_rows.specs.Timeline.{for_some, transaction_of}
-use Rattle.hse_rows.specs.Isolation.{IsIsolated, AreIsolated}
-use Rattle.hse_rows.specs.Job.{JobWish}
-use Rattle.hse_rows.specs.Replies as replies
-use Rattle.hse_rows.specs.Replies.{Refusal, Answer}
-use Rattle.hse_rows.specs.Calls.{inside, outside, Call}
-use Rattle.hse_rows.specs.Calls as call
-use Rattle.hse_rows.specs.Core.{Core, Stored, life, now}
-use Rattle.hse_rows.specs.CoreRefusal as core
-use Rattle.hse_rows.specs.CoreDone as leads
-use Rattle.hse_rows.specs.Schedule.{next_wish}
-use Rattle.hse_rows.specs.CoreStep.{Found, loads, breaks_off, has_version}
-use Rattle.hse_rows.specs.ScriptLines.{Who, nobody, someone, Line, begin, write_by, get, commit, abort, list_stores, tree, info, open_cursor, seek, seek_range, read, update, close_cursor, pick, build, drop_job, next_job, take, take_install, write_turn, end_turn, turn, job, auto, reopen, silent, bad}
-use Rattle.hse_rows.specs.Script.{Script, begins_with, order_of, job_named, cursor_named, is_begun}
-use Rattle.hse_rows.specs.ScriptNames.{told}
-use Rattle.hse_rows.specs.ScriptRefusal.{refusal, refuse, asked, with_built}
-use Rattle.hse_rows.specs.ScriptDone.{done, refused_to, failing, turned, turn_failed, ran, job_done, job_failed, once_picked, job_refused}
-use Rattle.hse_rows.specs.ScriptStep.{LacksMemory, Reopens, Step}
-use Rattle.hse_rows.specs.ScriptLaws.{Entry, Run}
+use Rattle.hse_rows.specs.states.State.{store_named}
+use Rattle.hse_rows.specs.transactions.Transaction.{read_of}
+use Rattle.hse_rows.specs.transactions.Timeline.{for_some, transaction_of}
+use Rattle.hse_rows.specs.transactions.Isolation.{IsIsolated, AreIsolated}
+use Rattle.hse_rows.specs.rows.Job.{JobWish}
+use Rattle.hse_rows.specs.machine.Replies as replies
+use Rattle.hse_rows.specs.machine.Replies.{Refusal, Answer}
+use Rattle.hse_rows.specs.machine.Calls.{inside, outside, Call}
+use Rattle.hse_rows.specs.machine.Calls as call
+use Rattle.hse_rows.specs.machine.Core.{Core, Stored, life, now}
+use Rattle.hse_rows.specs.machine.CoreRefusal as core
+use Rattle.hse_rows.specs.machine.CoreDone as leads
+use Rattle.hse_rows.specs.rows.Schedule.{next_wish}
+use Rattle.hse_rows.specs.machine.CoreStep.{Found, loads, breaks_off, has_version}
+use Rattle.hse_rows.specs.script.ScriptLines.{Who, nobody, someone, Line, begin, write_by, get, commit, abort, list_stores, tree, info, open_cursor, seek, seek_range, read, update, close_cursor, pick, build, drop_job, next_job, take, take_install, write_turn, end_turn, turn, job, auto, reopen, silent, bad}
+use Rattle.hse_rows.specs.script.Script.{Script, begins_with, order_of, job_named, cursor_named, is_begun}
+use Rattle.hse_rows.specs.script.ScriptNames.{told}
+use Rattle.hse_rows.specs.script.ScriptRefusal.{refusal, refuse, asked, with_built}
+use Rattle.hse_rows.specs.script.ScriptDone.{done, refused_to, failing, turned, turn_failed, ran, job_done, job_failed, once_picked, job_refused}
+use Rattle.hse_rows.specs.script.ScriptStep.{LacksMemory, Reopens, Step}
+use Rattle.hse_rows.specs.laws.ScriptLaws.{Entry, Run}
 use Rattle.hse_rows.proofs.IsolationLemmas.{opened_isolated, goes_isolated, are_isolated}
 use Rattle.hse_rows.proofs.CoreGoes.{done_goes, done_keeps, refused_keeps}
 

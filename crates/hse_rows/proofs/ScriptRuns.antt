@@ -1,23 +1,23 @@
 -- A line is a run of calls of the core.
 use Rattle.std.proofs.Common.{◌≡◌, ℕ, ◌+◌, true, false, List, [], ◌∷◌, Option, Some, None, refl, sym, ◌∙◌, ap, subst}
-use Rattle.hse_rows.specs.State.{store_named}
-use Rattle.hse_rows.specs.Timeline.{for_some}
-use Rattle.hse_rows.specs.Job.{JobWish, Job, is_built, job_of, needed_blocks}
-use Rattle.hse_rows.specs.Turn.{TurnWish, sync, freeze, create, drop, TakenTurn, Turn, taken, written, Calls}
-use Rattle.hse_rows.specs.Replies as replies
-use Rattle.hse_rows.specs.Replies.{Refusal, Answer}
-use Rattle.hse_rows.specs.Calls.{inside, outside, Call}
-use Rattle.hse_rows.specs.Calls as call
-use Rattle.hse_rows.specs.Core.{Core, now}
-use Rattle.hse_rows.specs.CoreRefusal.{take_refusal, install_refusal, drop_refusal, unless_not_taken, unless_run_well}
-use Rattle.hse_rows.specs.CoreRefusal as core
-use Rattle.hse_rows.specs.CoreReply as replied
-use Rattle.hse_rows.specs.CoreDone.{taking, taking_install, with_picked}
-use Rattle.hse_rows.specs.CoreDone as leads
-use Rattle.hse_rows.specs.CoreStep.{Found}
-use Rattle.hse_rows.specs.ScriptRefusal.{with_built}
-use Rattle.hse_rows.specs.ScriptDone.{turned, turn_failed, turn_reply}
-use Rattle.hse_rows.specs.ScriptCalls.{Leads, told_by, turn_calls}
+use Rattle.hse_rows.specs.states.State.{store_named}
+use Rattle.hse_rows.specs.transactions.Timeline.{for_some}
+use Rattle.hse_rows.specs.rows.Job.{JobWish, Job, is_built, job_of, needed_blocks}
+use Rattle.hse_rows.specs.machine.Turn.{TurnWish, sync, freeze, create, drop, TakenTurn, Turn, taken, written, Calls}
+use Rattle.hse_rows.specs.machine.Replies as replies
+use Rattle.hse_rows.specs.machine.Replies.{Refusal, Answer}
+use Rattle.hse_rows.specs.machine.Calls.{inside, outside, Call}
+use Rattle.hse_rows.specs.machine.Calls as call
+use Rattle.hse_rows.specs.machine.Core.{Core, now}
+use Rattle.hse_rows.specs.machine.CoreRefusal.{take_refusal, install_refusal, drop_refusal, unless_not_taken, unless_run_well}
+use Rattle.hse_rows.specs.machine.CoreRefusal as core
+use Rattle.hse_rows.specs.machine.CoreReply as replied
+use Rattle.hse_rows.specs.machine.CoreDone.{taking, taking_install, with_picked}
+use Rattle.hse_rows.specs.machine.CoreDone as leads
+use Rattle.hse_rows.specs.machine.CoreStep.{Found}
+use Rattle.hse_rows.specs.script.ScriptRefusal.{with_built}
+use Rattle.hse_rows.specs.script.ScriptDone.{turned, turn_failed, turn_reply}
+use Rattle.hse_rows.specs.script.ScriptCalls.{Leads, told_by, turn_calls}
 use Rattle.hse_rows.proofs.PassLemmas.{found, found_job}
 use Rattle.hse_rows.proofs.CoreAnswers.{IsOther, call_passes}
 use Rattle.hse_rows.proofs.JobLemmas.{AreBelow, picks, with_built_job, build_passes, built_is, picked_drops, built_drops, picked_gone, built_gone}

@@ -1,20 +1,20 @@
 -- Limits, records and standing timelines in every script.
 use Rattle.std.specs.List.{AllByRecursion}
 use Rattle.std.proofs.Common.{◌≡◌, ◌≢◌, ℕ, List, [], ◌∷◌, refl, sym, ap, subst}
-use Rattle.hse_rows.specs.Replies as replies
-use Rattle.hse_rows.specs.Replies.{Answer}
-use Rattle.hse_rows.specs.Calls.{Call}
-use Rattle.hse_rows.specs.Calls as call
-use Rattle.hse_rows.specs.Core.{Core, Stored, life}
-use Rattle.hse_rows.specs.CoreDone as leads
-use Rattle.hse_rows.specs.CoreStep.{Found, loads, breaks_off, has_version}
-use Rattle.hse_rows.specs.CoreStep as core
-use Rattle.hse_rows.specs.CoreLaws.{LoadsWithinLimits, LoadsState, Stands}
-use Rattle.hse_rows.specs.ScriptLines.{Line, reopen}
-use Rattle.hse_rows.specs.Script.{Script, begins_with}
-use Rattle.hse_rows.specs.ScriptStep.{Reopens, Step}
-use Rattle.hse_rows.specs.ScriptCalls.{Leads}
-use Rattle.hse_rows.specs.ScriptLaws.{Entry, Run, IsSound, IsLoadable, LoadsSound, stored_by, stored_in}
+use Rattle.hse_rows.specs.machine.Replies as replies
+use Rattle.hse_rows.specs.machine.Replies.{Answer}
+use Rattle.hse_rows.specs.machine.Calls.{Call}
+use Rattle.hse_rows.specs.machine.Calls as call
+use Rattle.hse_rows.specs.machine.Core.{Core, Stored, life}
+use Rattle.hse_rows.specs.machine.CoreDone as leads
+use Rattle.hse_rows.specs.machine.CoreStep.{Found, loads, breaks_off, has_version}
+use Rattle.hse_rows.specs.machine.CoreStep as core
+use Rattle.hse_rows.specs.laws.CoreLaws.{LoadsWithinLimits, LoadsState, Stands}
+use Rattle.hse_rows.specs.script.ScriptLines.{Line, reopen}
+use Rattle.hse_rows.specs.script.Script.{Script, begins_with}
+use Rattle.hse_rows.specs.script.ScriptStep.{Reopens, Step}
+use Rattle.hse_rows.specs.script.ScriptCalls.{Leads}
+use Rattle.hse_rows.specs.laws.ScriptLaws.{Entry, Run, IsSound, IsLoadable, LoadsSound, stored_by, stored_in}
 use Rattle.hse_rows.proofs.CoreAnswers.{IsOther}
 use Rattle.hse_rows.proofs.CoreGoes.{failing_keeps}
 use Rattle.hse_rows.proofs.CoreLimits.{failing_within, step_keeps_limits}

@@ -1,7 +1,7 @@
 -- Small cases of devices' sizes and of numbers in runs, worked by hand.
 use Rattle.std.proofs.Common.{◌≡◌, ◌≤◌, [], ◌∷◌, refl, arith}
-use Rattle.hse_rows.specs.Sizes.{device_bytes, IsRegionSize, AreSizes, default_sizes}
-use Rattle.hse_rows.specs.TakenRuns.{runs_from, runs_of}
+use Rattle.hse_rows.specs.machine.Sizes.{device_bytes, IsRegionSize, AreSizes, default_sizes}
+use Rattle.hse_rows.specs.machine.TakenRuns.{runs_from, runs_of}
 
 -- ---- sizes
 

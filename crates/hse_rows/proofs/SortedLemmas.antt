@@ -9,7 +9,7 @@ use Rattle.std.specs.List.Sorted.{IsStrictlySortedBy, IsNonDecreasingBy}
 use Rattle.std.specs.Cmp.{IsTotalOrder, alike_right}
 use Rattle.std.proofs.lemmas.List.Sums.{fold-append}
 use Rattle.std.proofs.lemmas.List.Sorted.{searchable_from_sorted}
-use Rattle.hse_rows.specs.Sorted.{placed, sorted}
+use Rattle.hse_rows.specs.writes.Sorted.{placed, sorted}
 
 module _ {X : Type 0} where
   pub each-weaker : {P Q : X → Type 0} → ((x : X) → P x → Q x) → (xs : List X) → AllByRecursion P xs → AllByRecursion Q xs

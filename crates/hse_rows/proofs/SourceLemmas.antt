@@ -9,16 +9,16 @@ use Rattle.std.proofs.lemmas.Option.{slice_get_within}
 use Rattle.std.proofs.lemmas.Bool.{eqb-true}
 use Rattle.hse_rows.specs.declared.store.Mode.TheVariants.{Plain, Tx}
 use Rattle.hse_rows.specs.declared.write.Write.{Write}
-use Rattle.hse_rows.specs.NormalForm.{normal_form}
-use Rattle.hse_rows.specs.State.{State, AreRising}
-use Rattle.hse_rows.specs.History.{Event, commits, creates, drops, folded}
-use Rattle.hse_rows.specs.Folding.{folded-append}
-use Rattle.hse_rows.specs.Overlap.{meets, overlaps, overlaps_some}
-use Rattle.hse_rows.specs.Transaction.{TransactionState, active, committed, aborted, Transaction, begins, staged, ended}
-use Rattle.hse_rows.specs.Moves.{Move, begin, write_in, write_out, commit, abort, create, remove}
-use Rattle.hse_rows.specs.Timeline.{Timeline, opened, now, number_of, transaction_of, snapshot_of, HasStore, IsActive, Allows, for_some, with_event, with_transaction, committing, moved, Goes, stays, moves, opens}
-use Rattle.hse_rows.specs.Isolation.{event_of}
-use Rattle.hse_rows.specs.Sources.{IsOfTransaction, IsPlainWrite, IsSourced}
+use Rattle.hse_rows.specs.writes.NormalForm.{normal_form}
+use Rattle.hse_rows.specs.states.State.{State, AreRising}
+use Rattle.hse_rows.specs.states.History.{Event, commits, creates, drops, folded}
+use Rattle.hse_rows.specs.laws.Folding.{folded-append}
+use Rattle.hse_rows.specs.writes.Overlap.{meets, overlaps, overlaps_some}
+use Rattle.hse_rows.specs.transactions.Transaction.{TransactionState, active, committed, aborted, Transaction, begins, staged, ended}
+use Rattle.hse_rows.specs.transactions.Moves.{Move, begin, write_in, write_out, commit, abort, create, remove}
+use Rattle.hse_rows.specs.transactions.Timeline.{Timeline, opened, now, number_of, transaction_of, snapshot_of, HasStore, IsActive, Allows, for_some, with_event, with_transaction, committing, moved, Goes, stays, moves, opens}
+use Rattle.hse_rows.specs.transactions.Isolation.{event_of}
+use Rattle.hse_rows.specs.transactions.Sources.{IsOfTransaction, IsPlainWrite, IsSourced}
 use Rattle.hse_rows.proofs.OverlapLemmas.{overlaps-normal_form}
 use Rattle.hse_rows.proofs.PlaceLemmas.{get-append, get_push, get-set_same, get-set_other}
 use Rattle.hse_rows.proofs.ModeLemmas.{one_mode, id_within, stood, folded_rising}

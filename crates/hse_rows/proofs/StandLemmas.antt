@@ -2,24 +2,24 @@
 use Rattle.std.proofs.Common.{◌≡◌, ℕ, Bool, true, false, cond, ◌||◌, List, [], ◌∷◌, Option, Some, None, refl, sym, subst, ap}
 use Rattle.std.specs.List.{find, list_any}
 use Rattle.hse_rows.specs.declared.write.Write.{Write}
-use Rattle.hse_rows.specs.NormalForm.{normal_form, same}
-use Rattle.hse_rows.specs.State.{State, Store, IsState, store_named}
-use Rattle.hse_rows.specs.History.{commits, creates, drops}
-use Rattle.hse_rows.specs.Transaction.{Transaction}
-use Rattle.hse_rows.specs.Moves.{Move, begin, write_in, write_out, commit, abort, create, remove}
-use Rattle.hse_rows.specs.Timeline.{Timeline, opened, transaction_of, snapshot_of, for_some, Allows, moved, committing, Goes, stays, moves, opens}
-use Rattle.hse_rows.specs.Timeline as timeline
-use Rattle.hse_rows.specs.Job.{job_of}
-use Rattle.hse_rows.specs.Turn.{TurnWish}
-use Rattle.hse_rows.specs.Turn as wish
-use Rattle.hse_rows.specs.Calls.{inside, outside, Call}
-use Rattle.hse_rows.specs.Calls as call
-use Rattle.hse_rows.specs.Replies as replies
-use Rattle.hse_rows.specs.Replies.{Answer}
-use Rattle.hse_rows.specs.Core.{Core, life, now}
-use Rattle.hse_rows.specs.CoreDone.{done, failing, refused_to, taking}
-use Rattle.hse_rows.specs.CoreStep.{Found, loads, breaks_off, has_version, Reopens, Step}
-use Rattle.hse_rows.specs.CoreLaws.{Stands, LoadsState}
+use Rattle.hse_rows.specs.writes.NormalForm.{normal_form, same}
+use Rattle.hse_rows.specs.states.State.{State, Store, IsState, store_named}
+use Rattle.hse_rows.specs.states.History.{commits, creates, drops}
+use Rattle.hse_rows.specs.transactions.Transaction.{Transaction}
+use Rattle.hse_rows.specs.transactions.Moves.{Move, begin, write_in, write_out, commit, abort, create, remove}
+use Rattle.hse_rows.specs.transactions.Timeline.{Timeline, opened, transaction_of, snapshot_of, for_some, Allows, moved, committing, Goes, stays, moves, opens}
+use Rattle.hse_rows.specs.transactions.Timeline as timeline
+use Rattle.hse_rows.specs.rows.Job.{job_of}
+use Rattle.hse_rows.specs.machine.Turn.{TurnWish}
+use Rattle.hse_rows.specs.machine.Turn as wish
+use Rattle.hse_rows.specs.machine.Calls.{inside, outside, Call}
+use Rattle.hse_rows.specs.machine.Calls as call
+use Rattle.hse_rows.specs.machine.Replies as replies
+use Rattle.hse_rows.specs.machine.Replies.{Answer}
+use Rattle.hse_rows.specs.machine.Core.{Core, life, now}
+use Rattle.hse_rows.specs.machine.CoreDone.{done, failing, refused_to, taking}
+use Rattle.hse_rows.specs.machine.CoreStep.{Found, loads, breaks_off, has_version, Reopens, Step}
+use Rattle.hse_rows.specs.laws.CoreLaws.{Stands, LoadsState}
 use Rattle.hse_rows.proofs.StatesLemmas.{pushed_state}
 use Rattle.hse_rows.proofs.IsolationLemmas.{opened_isolated, goes_isolated}
 use Rattle.hse_rows.proofs.SourceLemmas.{opened_sourced, goes_sourced}

@@ -10,19 +10,19 @@ use Rattle.hse_rows.specs.declared.store.Mode.TheVariants.{Plain, Tx}
 use Rattle.hse_rows.specs.declared.change.Change.{Change}
 use Rattle.hse_rows.specs.declared.change.Change.TheVariants.{Put, Del, PDel}
 use Rattle.hse_rows.specs.declared.write.Write.{Write}
-use Rattle.hse_rows.specs.Change.{write_of}
-use Rattle.hse_rows.specs.Reach.{reaches, leaves}
-use Rattle.hse_rows.specs.State.{Contents, Store, State, IsState, changed, store_named, store_of, applied, applied_all}
-use Rattle.hse_rows.specs.Holding.{get-changed, get-contents_after_all}
-use Rattle.hse_rows.specs.History.{new_store, without}
-use Rattle.hse_rows.specs.Log.{new_log}
-use Rattle.hse_rows.specs.Timeline.{for_some}
-use Rattle.hse_rows.specs.Replies.{listed, superblock}
-use Rattle.hse_rows.specs.Calls.{list_stores}
-use Rattle.hse_rows.specs.Core.{life, new_manifest}
-use Rattle.hse_rows.specs.CoreReply.{reply}
-use Rattle.hse_rows.specs.CoreStep.{loads, breaks_off}
-use Rattle.hse_rows.specs.CoreLaws.{LoadsState}
+use Rattle.hse_rows.specs.writes.Change.{write_of}
+use Rattle.hse_rows.specs.writes.Reach.{reaches, leaves}
+use Rattle.hse_rows.specs.states.State.{Contents, Store, State, IsState, changed, store_named, store_of, applied, applied_all}
+use Rattle.hse_rows.specs.laws.Holding.{get-changed, get-contents_after_all}
+use Rattle.hse_rows.specs.states.History.{new_store, without}
+use Rattle.hse_rows.specs.machine.Log.{new_log}
+use Rattle.hse_rows.specs.transactions.Timeline.{for_some}
+use Rattle.hse_rows.specs.machine.Replies.{listed, superblock}
+use Rattle.hse_rows.specs.machine.Calls.{list_stores}
+use Rattle.hse_rows.specs.machine.Core.{life, new_manifest}
+use Rattle.hse_rows.specs.machine.CoreReply.{reply}
+use Rattle.hse_rows.specs.machine.CoreStep.{loads, breaks_off}
+use Rattle.hse_rows.specs.laws.CoreLaws.{LoadsState}
 use Rattle.hse_rows.proofs.CaseLines.{without_sets}
 use Rattle.hse_rows.proofs.MachineCases.{small}
 

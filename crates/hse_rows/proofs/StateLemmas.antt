@@ -2,9 +2,9 @@
 use Rattle.std.proofs.Common.{◌≡◌, ℕ, List, map, sym, ◌∙◌}
 use Rattle.std.specs.FinMap as fin_map
 use Rattle.hse_rows.specs.declared.write.Write.{Write}
-use Rattle.hse_rows.specs.NormalForm.{normal_form}
-use Rattle.hse_rows.specs.State.{Contents, Store, State, contents_after_all, applied_all}
-use Rattle.hse_rows.specs.Holding.{get-contents_after_all, same_contents, applied_all-stores}
+use Rattle.hse_rows.specs.writes.NormalForm.{normal_form}
+use Rattle.hse_rows.specs.states.State.{Contents, Store, State, contents_after_all, applied_all}
+use Rattle.hse_rows.specs.laws.Holding.{get-contents_after_all, same_contents, applied_all-stores}
 use Rattle.hse_rows.proofs.EffectLemmas.{left_by-normal_form}
 
 pub contents-normal_form : (id : ℕ) (contents : Contents) (writes : List Write)

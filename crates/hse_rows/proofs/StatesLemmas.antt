@@ -3,11 +3,11 @@ use Rattle.std.proofs.Common.{◌≡◌, ℕ, ◌+◌, ◌<◌, ◌≤◌, ◌==
 use Rattle.std.specs.List.{list_any}
 use Rattle.std.specs.Cmp.Lexicographic.{nat_list_eq_equiv}
 use Rattle.hse_rows.specs.declared.write.Write.{Write}
-use Rattle.hse_rows.specs.NormalForm.{same}
-use Rattle.hse_rows.specs.State.{Store, State, IsState, AreRising, AreNamedApart, applied_all}
-use Rattle.hse_rows.specs.Holding.{written_all, applied_all-stores}
-use Rattle.hse_rows.specs.History.{Event, commits, creates, drops, new_store, without, happened, folded}
-use Rattle.hse_rows.specs.Folding.{folded_push}
+use Rattle.hse_rows.specs.writes.NormalForm.{same}
+use Rattle.hse_rows.specs.states.State.{Store, State, IsState, AreRising, AreNamedApart, applied_all}
+use Rattle.hse_rows.specs.laws.Holding.{written_all, applied_all-stores}
+use Rattle.hse_rows.specs.states.History.{Event, commits, creates, drops, new_store, without, happened, folded}
+use Rattle.hse_rows.specs.laws.Folding.{folded_push}
 use Rattle.hse_rows.proofs.NormalFormLemmas.{or_left, or_right, or_none}
 
 -- ---- writes keep names and ids

@@ -5,17 +5,17 @@ use Rattle.hse_rows.specs.declared.store.Mode.TheVariants.{Plain, Tx}
 use Rattle.hse_rows.specs.declared.change.Change.{Change}
 use Rattle.hse_rows.specs.declared.change.Change.TheVariants.{Put, Del, PDel}
 use Rattle.hse_rows.specs.declared.write.Write.{Write}
-use Rattle.hse_rows.specs.Change.{write_of}
-use Rattle.hse_rows.specs.NormalForm.{normal_form}
-use Rattle.hse_rows.specs.History.{Event, commits, creates, drops}
-use Rattle.hse_rows.specs.Transaction.{Transaction, begins, active, committed, aborted}
-use Rattle.hse_rows.specs.Timeline.{for_some}
-use Rattle.hse_rows.specs.Log.{Numbered}
-use Rattle.hse_rows.specs.Cursor.{CursorState, Position, front, at_key, forward}
-use Rattle.hse_rows.specs.Turn.{sync, freeze, create, drop, syncing, creating, dropping, settles, enters, removes, home, taken, ran}
-use Rattle.hse_rows.specs.ScriptLines.{nobody, someone, begin, write_by, get, commit, abort, list_stores, tree, info, open_cursor, seek, seek_range, update, close_cursor, next_job, take, write_turn, end_turn, turn}
-use Rattle.hse_rows.specs.Script.{Script, cursor_named}
-use Rattle.hse_rows.specs.ScriptDone.{done, refused_to, failing}
+use Rattle.hse_rows.specs.writes.Change.{write_of}
+use Rattle.hse_rows.specs.writes.NormalForm.{normal_form}
+use Rattle.hse_rows.specs.states.History.{Event, commits, creates, drops}
+use Rattle.hse_rows.specs.transactions.Transaction.{Transaction, begins, active, committed, aborted}
+use Rattle.hse_rows.specs.transactions.Timeline.{for_some}
+use Rattle.hse_rows.specs.machine.Log.{Numbered}
+use Rattle.hse_rows.specs.script.Cursor.{CursorState, Position, front, at_key, forward}
+use Rattle.hse_rows.specs.machine.Turn.{sync, freeze, create, drop, syncing, creating, dropping, settles, enters, removes, home, taken, ran}
+use Rattle.hse_rows.specs.script.ScriptLines.{nobody, someone, begin, write_by, get, commit, abort, list_stores, tree, info, open_cursor, seek, seek_range, update, close_cursor, next_job, take, write_turn, end_turn, turn}
+use Rattle.hse_rows.specs.script.Script.{Script, cursor_named}
+use Rattle.hse_rows.specs.script.ScriptDone.{done, refused_to, failing}
 use Rattle.hse_rows.proofs.RowCases.{device, started, led, put_in, put_out, a, b, s, one}
 
 abbrev of : Change → Write

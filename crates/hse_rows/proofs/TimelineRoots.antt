@@ -7,17 +7,17 @@ use Rattle.std.proofs.lemmas.List.{length-take}
 use Rattle.hse_rows.specs.declared.store.Mode.{Mode}
 use Rattle.hse_rows.specs.declared.store.Mode.TheVariants.{Plain, Tx}
 use Rattle.hse_rows.specs.declared.write.Write.{Write}
-use Rattle.hse_rows.specs.Sorted.{placed}
-use Rattle.hse_rows.specs.NormalForm.{hides, lasting, write_cmp, normal_form}
-use Rattle.hse_rows.specs.State.{AreRising}
-use Rattle.hse_rows.specs.History.{Event, commits, creates, drops, folded, last_number}
-use Rattle.hse_rows.specs.History as histories
-use Rattle.hse_rows.specs.Folding.{folded-number}
-use Rattle.hse_rows.specs.Rooted.{AreRooted}
-use Rattle.hse_rows.specs.Transaction.{Transaction}
-use Rattle.hse_rows.specs.Moves.{Move, begin, write_in, write_out, commit, abort, create, remove}
-use Rattle.hse_rows.specs.Timeline.{Timeline, number_of, transaction_of, HasStore, IsActive, Allows, for_some, committing, moved}
-use Rattle.hse_rows.specs.Isolation.{IsIsolated}
+use Rattle.hse_rows.specs.writes.Sorted.{placed}
+use Rattle.hse_rows.specs.writes.NormalForm.{hides, lasting, write_cmp, normal_form}
+use Rattle.hse_rows.specs.states.State.{AreRising}
+use Rattle.hse_rows.specs.states.History.{Event, commits, creates, drops, folded, last_number}
+use Rattle.hse_rows.specs.states.History as histories
+use Rattle.hse_rows.specs.laws.Folding.{folded-number}
+use Rattle.hse_rows.specs.states.Rooted.{AreRooted}
+use Rattle.hse_rows.specs.transactions.Transaction.{Transaction}
+use Rattle.hse_rows.specs.transactions.Moves.{Move, begin, write_in, write_out, commit, abort, create, remove}
+use Rattle.hse_rows.specs.transactions.Timeline.{Timeline, number_of, transaction_of, HasStore, IsActive, Allows, for_some, committing, moved}
+use Rattle.hse_rows.specs.transactions.Isolation.{IsIsolated}
 use Rattle.hse_rows.proofs.ModeLemmas.{id_within, folded_rising}
 use Rattle.hse_rows.proofs.RootedLemmas.{rooted_push}
 

@@ -9,13 +9,13 @@ use Rattle.hse_rows.specs.declared.store.Mode.TheVariants.{Tx}
 use Rattle.hse_rows.specs.declared.change.Change.{Change}
 use Rattle.hse_rows.specs.declared.change.Change.TheVariants.{Put, Del, PDel}
 use Rattle.hse_rows.specs.declared.write.Write.{Write}
-use Rattle.hse_rows.specs.Change.{write_of}
-use Rattle.hse_rows.specs.State.{State, store_of}
-use Rattle.hse_rows.specs.Holding.{get-contents_after_all}
-use Rattle.hse_rows.specs.History.{Event, commits, creates, drops}
-use Rattle.hse_rows.specs.Transaction.{Transaction, begins, staged, ended, committed, aborted, read_of}
-use Rattle.hse_rows.specs.Timeline.{for_some}
-use Rattle.hse_rows.specs.Conflict.{held, since, conflict_of}
+use Rattle.hse_rows.specs.writes.Change.{write_of}
+use Rattle.hse_rows.specs.states.State.{State, store_of}
+use Rattle.hse_rows.specs.laws.Holding.{get-contents_after_all}
+use Rattle.hse_rows.specs.states.History.{Event, commits, creates, drops}
+use Rattle.hse_rows.specs.transactions.Transaction.{Transaction, begins, staged, ended, committed, aborted, read_of}
+use Rattle.hse_rows.specs.transactions.Timeline.{for_some}
+use Rattle.hse_rows.specs.transactions.Conflict.{held, since, conflict_of}
 
 abbrev of : Change → Write
 of change = write_of (record { 0 = 1 }) change

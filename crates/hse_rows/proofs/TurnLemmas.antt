@@ -1,18 +1,18 @@
 -- The phases of a turn in a row.
 use Rattle.std.proofs.Common.{◌≡◌, ◌+◌, true, [], ◌∷◌, ◌++◌, Option, refl, sym, ap, subst, arith, length-append}
-use Rattle.hse_rows.specs.State.{Store}
-use Rattle.hse_rows.specs.History.{Event, creates, last_number}
-use Rattle.hse_rows.specs.History as history
-use Rattle.hse_rows.specs.Timeline.{for_some}
-use Rattle.hse_rows.specs.Moves as move
-use Rattle.hse_rows.specs.Turn.{dropping, removes}
-use Rattle.hse_rows.specs.Replies.{ok}
-use Rattle.hse_rows.specs.Calls.{write_turn, end_turn}
-use Rattle.hse_rows.specs.Core.{Core, number_of, with_move}
-use Rattle.hse_rows.specs.ManifestEntry.{drop_entry, entered}
-use Rattle.hse_rows.specs.CoreReply.{reply}
-use Rattle.hse_rows.specs.CoreDone.{done, failing, refused_to, with_turn}
-use Rattle.hse_rows.specs.ScriptLaws.{SyncsAreOneStep, CreationsAreOneStep, DropsAreOneStep}
+use Rattle.hse_rows.specs.states.State.{Store}
+use Rattle.hse_rows.specs.states.History.{Event, creates, last_number}
+use Rattle.hse_rows.specs.states.History as history
+use Rattle.hse_rows.specs.transactions.Timeline.{for_some}
+use Rattle.hse_rows.specs.transactions.Moves as move
+use Rattle.hse_rows.specs.machine.Turn.{dropping, removes}
+use Rattle.hse_rows.specs.machine.Replies.{ok}
+use Rattle.hse_rows.specs.machine.Calls.{write_turn, end_turn}
+use Rattle.hse_rows.specs.machine.Core.{Core, number_of, with_move}
+use Rattle.hse_rows.specs.machine.ManifestEntry.{drop_entry, entered}
+use Rattle.hse_rows.specs.machine.CoreReply.{reply}
+use Rattle.hse_rows.specs.machine.CoreDone.{done, failing, refused_to, with_turn}
+use Rattle.hse_rows.specs.laws.ScriptLaws.{SyncsAreOneStep, CreationsAreOneStep, DropsAreOneStep}
 
 next_number : (m : Core) (event : Event) → last_number m.timeline.base (m.timeline.history ++ event ∷ []) ≡ number_of m + 1
 next_number m event = omega (arith, length-append m.timeline.history (event ∷ []))

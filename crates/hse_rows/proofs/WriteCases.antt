@@ -7,18 +7,18 @@ use Rattle.std.specs.Ordering.{nat_cmp, on, is_gt}
 use Rattle.hse_rows.specs.declared.change.Change.{Change}
 use Rattle.hse_rows.specs.declared.change.Change.TheVariants.{Put, Del, PDel}
 use Rattle.hse_rows.specs.declared.write.Write.{Write}
-use Rattle.hse_rows.specs.Change.{Covers, covers, target, change_of, write_of}
-use Rattle.hse_rows.specs.NormalForm.{write_cmp, normal_form, added, replaced, Continues}
-use Rattle.hse_rows.specs.Orderly.{IsNormalForm}
-use Rattle.hse_rows.specs.Sorted.{sorted}
-use Rattle.hse_rows.specs.Charge.{writes_bytes, charge_of}
-use Rattle.hse_rows.specs.Sets.{IsSet}
+use Rattle.hse_rows.specs.writes.Change.{Covers, covers, target, change_of, write_of}
+use Rattle.hse_rows.specs.writes.NormalForm.{write_cmp, normal_form, added, replaced, Continues}
+use Rattle.hse_rows.specs.laws.Orderly.{IsNormalForm}
+use Rattle.hse_rows.specs.writes.Sorted.{sorted}
+use Rattle.hse_rows.specs.writes.Charge.{writes_bytes, charge_of}
+use Rattle.hse_rows.specs.writes.Sets.{IsSet}
 use Rattle.hse_rows.specs.declared.write_set.WriteSet.TheInside.{Inside}
 use Rattle.hse_rows.specs.declared.change.ChangeRef.TheVariants as lent
 use Rattle.hse_rows.proofs.ChargeLemmas.{next-of-all}
-use Rattle.hse_rows.specs.Reach.{leaves, touches, left_by}
-use Rattle.hse_rows.specs.LastEffect.{last_effect}
-use Rattle.hse_rows.specs.Overlap.{overlaps, overlaps_some}
+use Rattle.hse_rows.specs.writes.Reach.{leaves, touches, left_by}
+use Rattle.hse_rows.specs.laws.LastEffect.{last_effect}
+use Rattle.hse_rows.specs.writes.Overlap.{overlaps, overlaps_some}
 
 abbrev of : ℕ → Change → Write
 of id change = write_of (record { 0 = id }) change

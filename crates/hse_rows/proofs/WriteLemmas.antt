@@ -10,9 +10,9 @@ use Rattle.hse_rows.specs.declared.change.Change.{Change}
 use Rattle.hse_rows.specs.declared.change.Change.TheVariants.{Put, Del, PDel}
 use Rattle.hse_rows.specs.declared.store.StoreId.{StoreId}
 use Rattle.hse_rows.specs.declared.write.Write.{Write}
-use Rattle.hse_rows.specs.Change.{target}
-use Rattle.hse_rows.specs.NormalForm.{same, hides, lasting, rank, write_cmp, normal_form, stays, added, replaced}
-use Rattle.hse_rows.specs.Sorted.{sorted, placed}
+use Rattle.hse_rows.specs.writes.Change.{target}
+use Rattle.hse_rows.specs.writes.NormalForm.{same, hides, lasting, rank, write_cmp, normal_form, stays, added, replaced}
+use Rattle.hse_rows.specs.writes.Sorted.{sorted, placed}
 use Rattle.hse_rows.proofs.SortedLemmas.{each-weaker, filter-all, filter-alike, filter-sorted, sorted-last, sorted-rising, parted, rising-filter, rising-replaced, turned, set-found, IsPlace, searchable, insert-missing, apart-missing}
 
 pub rising-none : IsStrictlySortedBy write_cmp []

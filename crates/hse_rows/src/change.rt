@@ -1,8 +1,8 @@
 //! What a write does to a key, or to all keys under a prefix.
 ghost use Rattle.std.specs.Prelude.{◌≡◌, IfOk};
-ghost use Rattle.hse_rows.specs.Change.{change_of, target, FitsLimits};
-ghost use Rattle.hse_rows.specs.Charge.{change_bytes};
-ghost use Rattle.hse_rows.specs.NormalForm.{rank, hides_key, hides_prefix, hides_change};
+ghost use Rattle.hse_rows.specs.writes.Change.{change_of, target, FitsLimits};
+ghost use Rattle.hse_rows.specs.writes.Charge.{change_bytes};
+ghost use Rattle.hse_rows.specs.writes.NormalForm.{rank, hides_key, hides_prefix, hides_change};
 
 use crate::key::Key;
 use crate::prefix::Prefix;

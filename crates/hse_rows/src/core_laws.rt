@@ -1,13 +1,13 @@
 //! Laws of the machine's core. Each function does nothing; its contract is the law.
-ghost use Rattle.hse_rows.specs.CoreLaws.{StepsMoveTimelines, RunsAreIsolated};
-ghost use Rattle.hse_rows.specs.CoreLaws.{CommitsAreNotCanceled};
-ghost use Rattle.hse_rows.specs.CoreLaws.{OthersKeepTimelines, OthersKeepCursors};
-ghost use Rattle.hse_rows.specs.CoreLaws.{LivesStand, StepsKeepStanding};
-ghost use Rattle.hse_rows.specs.CoreLaws.{AnswersLeadOneWay, RefusalsChangeNothing};
-ghost use Rattle.hse_rows.specs.CoreLaws.{CallsAreAnswered, CallsHaveOneAnswer};
-ghost use Rattle.hse_rows.specs.CoreLaws.{StepsKeepLimits, RunsKeepLimits, LivesBeginRecorded};
-ghost use Rattle.hse_rows.specs.CoreLaws.{StepsKeepRecords, RunsAreRecorded};
-ghost use Rattle.hse_rows.specs.CoreLaws.{InstallsCountSlots, DropsCountSlots};
+ghost use Rattle.hse_rows.specs.laws.CoreLaws.{StepsMoveTimelines, RunsAreIsolated};
+ghost use Rattle.hse_rows.specs.laws.CoreLaws.{CommitsAreNotCanceled};
+ghost use Rattle.hse_rows.specs.laws.CoreLaws.{OthersKeepTimelines, OthersKeepCursors};
+ghost use Rattle.hse_rows.specs.laws.CoreLaws.{LivesStand, StepsKeepStanding};
+ghost use Rattle.hse_rows.specs.laws.CoreLaws.{AnswersLeadOneWay, RefusalsChangeNothing};
+ghost use Rattle.hse_rows.specs.laws.CoreLaws.{CallsAreAnswered, CallsHaveOneAnswer};
+ghost use Rattle.hse_rows.specs.laws.CoreLaws.{StepsKeepLimits, RunsKeepLimits, LivesBeginRecorded};
+ghost use Rattle.hse_rows.specs.laws.CoreLaws.{StepsKeepRecords, RunsAreRecorded};
+ghost use Rattle.hse_rows.specs.laws.CoreLaws.{InstallsCountSlots, DropsCountSlots};
 
 /// Snapshot isolation. In every run no two transactions that each began before the other's commit
 /// both committed overlapping writes, and a commit is never canceled.

@@ -1,7 +1,7 @@
 //! Where a place among keys is asked for.
 ghost use Rattle.std.specs.Prelude.{◌≡◌, length, IfOk, IfErr};
-ghost use Rattle.hse_rows.specs.Lengths.{IsEdgeLength};
-ghost use Rattle.hse_rows.specs.Refusals.{RefusesEdge};
+ghost use Rattle.hse_rows.specs.writes.Lengths.{IsEdgeLength};
+ghost use Rattle.hse_rows.specs.writes.Refusals.{RefusesEdge};
 
 use crate::key::{KeyFault, LONGEST_KEY};
 use crate::shared_bytes::SharedBytes;
@@ -17,7 +17,7 @@ pub struct Edge {
 
 impl Model for Edge {
     ghost use Rattle.std.specs.Prelude.{List, ℕ, length};
-    ghost use Rattle.hse_rows.specs.Lengths.{IsEdgeLength};
+    ghost use Rattle.hse_rows.specs.writes.Lengths.{IsEdgeLength};
 
     ghost Value = { List ℕ };
 

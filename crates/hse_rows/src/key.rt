@@ -1,7 +1,7 @@
 //! The key of a pair.
 ghost use Rattle.std.specs.Prelude.{◌≡◌, length, IfOk, IfErr};
-ghost use Rattle.hse_rows.specs.Lengths.{IsKeyLength};
-ghost use Rattle.hse_rows.specs.Refusals.{RefusesKey};
+ghost use Rattle.hse_rows.specs.writes.Lengths.{IsKeyLength};
+ghost use Rattle.hse_rows.specs.writes.Refusals.{RefusesKey};
 
 use crate::length_fault::LengthFault;
 use crate::shared_bytes::SharedBytes;
@@ -18,7 +18,7 @@ pub struct Key {
 
 impl Model for Key {
     ghost use Rattle.std.specs.Prelude.{List, ℕ, length};
-    ghost use Rattle.hse_rows.specs.Lengths.{IsKeyLength};
+    ghost use Rattle.hse_rows.specs.writes.Lengths.{IsKeyLength};
 
     ghost Value = { List ℕ };
 

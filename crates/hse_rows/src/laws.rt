@@ -1,12 +1,12 @@
 //! Laws of the definitions. Each function does nothing; its contract is the law.
-ghost use Rattle.hse_rows.specs.Laws.{KeysHoldLastEffects, NormalFormsDoTheSame};
-ghost use Rattle.hse_rows.specs.Laws.{NormalFormsOverlapTheSame, OverlapsGoBothWays};
-ghost use Rattle.hse_rows.specs.Laws.{LastStateHasLastNumber, SnapshotsStay};
-ghost use Rattle.hse_rows.specs.Laws.{CreationsMayComeFirst, FrontsAreRooted};
-ghost use Rattle.hse_rows.specs.Laws.{CommitsHaveTheWrites};
-ghost use Rattle.hse_rows.specs.Isolation.{MovesKeepIsolated, SnapshotsAreIsolated};
-ghost use Rattle.hse_rows.specs.Sources.{MovesKeepSources, MovesKeepRoots};
-ghost use Rattle.hse_rows.specs.Sources.{ConflictsAreOfTransactions};
+ghost use Rattle.hse_rows.specs.laws.Laws.{KeysHoldLastEffects, NormalFormsDoTheSame};
+ghost use Rattle.hse_rows.specs.laws.Laws.{NormalFormsOverlapTheSame, OverlapsGoBothWays};
+ghost use Rattle.hse_rows.specs.laws.Laws.{LastStateHasLastNumber, SnapshotsStay};
+ghost use Rattle.hse_rows.specs.laws.Laws.{CreationsMayComeFirst, FrontsAreRooted};
+ghost use Rattle.hse_rows.specs.laws.Laws.{CommitsHaveTheWrites};
+ghost use Rattle.hse_rows.specs.transactions.Isolation.{MovesKeepIsolated, SnapshotsAreIsolated};
+ghost use Rattle.hse_rows.specs.transactions.Sources.{MovesKeepSources, MovesKeepRoots};
+ghost use Rattle.hse_rows.specs.transactions.Sources.{ConflictsAreOfTransactions};
 
 /// After writes in order a key holds what the last write that touches it leaves there, and what it
 /// held where none does.

@@ -1,8 +1,8 @@
 //! The name of a store.
 ghost use Rattle.std.specs.Prelude.{◌≡◌, ◌↔◌, IsTrue, IfOk, IfErr};
 ghost use Rattle.std.specs.List.{list_all};
-ghost use Rattle.hse_rows.specs.Names.{is_name_byte, IsName};
-ghost use Rattle.hse_rows.specs.Refusals.{RefusesName};
+ghost use Rattle.hse_rows.specs.writes.Names.{is_name_byte, IsName};
+ghost use Rattle.hse_rows.specs.writes.Refusals.{RefusesName};
 
 use crate::shared_bytes::SharedBytes;
 use hse_io::NoMemory;
@@ -18,7 +18,7 @@ pub struct StoreName {
 
 impl Model for StoreName {
     ghost use Rattle.std.specs.Prelude.{List, ℕ};
-    ghost use Rattle.hse_rows.specs.Names.{IsName};
+    ghost use Rattle.hse_rows.specs.writes.Names.{IsName};
 
     ghost Value = { List ℕ };
 

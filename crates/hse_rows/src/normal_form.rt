@@ -1,6 +1,6 @@
 //! What normal forms are and what they take.
-ghost use Rattle.hse_rows.specs.Orderly.{NormalFormsAreInOrder};
-ghost use Rattle.hse_rows.specs.ChargeLaw.{ChargesGrowByTheChangeAtMost};
+ghost use Rattle.hse_rows.specs.laws.Orderly.{NormalFormsAreInOrder};
+ghost use Rattle.hse_rows.specs.laws.ChargeLaw.{ChargesGrowByTheChangeAtMost};
 
 /// A normal form has the writes that no later one hides, each as often as they do, strictly in
 /// order. The function does nothing; its contract is the law.

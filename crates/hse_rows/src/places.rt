@@ -2,9 +2,9 @@
 ghost use Rattle.std.specs.Prelude.{◌≡◌, ◌+◌, ◌^◌, ◌<◌, ◌≤◌, length, vec_len, vec_capacity};
 ghost use Rattle.std.specs.List.{filter};
 ghost use Rattle.std.specs.List.Sorted.{IsBinarySearchResult, IsSearchInRange, IsStrictlySortedBy};
-ghost use Rattle.hse_rows.specs.Change.{write_of};
-ghost use Rattle.hse_rows.specs.NormalForm.{write_cmp, stays, added, replaced};
-ghost use Rattle.hse_rows.specs.Charge.{writes_bytes};
+ghost use Rattle.hse_rows.specs.writes.Change.{write_of};
+ghost use Rattle.hse_rows.specs.writes.NormalForm.{write_cmp, stays, added, replaced};
+ghost use Rattle.hse_rows.specs.writes.Charge.{writes_bytes};
 
 use crate::change::Change;
 use crate::store::StoreId;

@@ -1,8 +1,8 @@
 //! The prefix of a prefix delete.
 ghost use Rattle.std.specs.Prelude.{◌≡◌, ◌↔◌, IsTrue, length as number_of, IfOk, IfErr};
-ghost use Rattle.hse_rows.specs.Change.{Covers, covers};
-ghost use Rattle.hse_rows.specs.Lengths.{IsPrefixLength, FitsPrefix};
-ghost use Rattle.hse_rows.specs.Refusals.{RefusesPrefix};
+ghost use Rattle.hse_rows.specs.writes.Change.{Covers, covers};
+ghost use Rattle.hse_rows.specs.writes.Lengths.{IsPrefixLength, FitsPrefix};
+ghost use Rattle.hse_rows.specs.writes.Refusals.{RefusesPrefix};
 
 use crate::length_fault::LengthFault;
 use crate::shared_bytes::SharedBytes;
@@ -19,7 +19,7 @@ pub struct Prefix {
 
 impl Model for Prefix {
     ghost use Rattle.std.specs.Prelude.{List, ℕ, length};
-    ghost use Rattle.hse_rows.specs.Lengths.{IsPrefixLength};
+    ghost use Rattle.hse_rows.specs.writes.Lengths.{IsPrefixLength};
 
     ghost Value = { List ℕ };
 

@@ -1,8 +1,8 @@
 //! Rows in order, however they are kept.
 ghost use Rattle.std.specs.Prelude.{◌≡◌, ◌<◌, List, length, slice_get, Some, IfOk};
 ghost use Rattle.hse_rows.specs.declared.row.Row.{Row as a_row};
-ghost use Rattle.hse_rows.specs.Meaning.{own_at, covered_at};
-ghost use Rattle.hse_rows.specs.RowSets.{AreRows, row_of, row_by, place_of};
+ghost use Rattle.hse_rows.specs.rows.Meaning.{own_at, covered_at};
+ghost use Rattle.hse_rows.specs.rows.RowSets.{AreRows, row_of, row_by, place_of};
 
 use crate::RowRef;
 use hse_io::NoMemory;

@@ -1,11 +1,11 @@
 //! Laws of the script machine. Each function does nothing; its contract is the law.
-ghost use Rattle.hse_rows.specs.ScriptLaws.{SyncsAreOneStep, CreationsAreOneStep, DropsAreOneStep};
-ghost use Rattle.hse_rows.specs.ScriptLaws.{LinesAreCalls, LinesAreTheirPhases, LinesLeadOneWay};
-ghost use Rattle.hse_rows.specs.ScriptLaws.{WantOfMemoryChangesNothing, RefusalsChangeNothing};
-ghost use Rattle.hse_rows.specs.ScriptLaws.{LinesHaveOneAnswer, LinesAreAnswered};
-ghost use Rattle.hse_rows.specs.ScriptLaws.{LinesKeepTimelines, LinesKeepNames};
-ghost use Rattle.hse_rows.specs.ScriptLaws.{LinesKeepSound, ScriptsAreSound};
-ghost use Rattle.hse_rows.specs.ScriptLaws.{LinesKeepIsolated, ScriptsAreIsolated};
+ghost use Rattle.hse_rows.specs.laws.ScriptLaws.{SyncsAreOneStep, CreationsAreOneStep, DropsAreOneStep};
+ghost use Rattle.hse_rows.specs.laws.ScriptLaws.{LinesAreCalls, LinesAreTheirPhases, LinesLeadOneWay};
+ghost use Rattle.hse_rows.specs.laws.ScriptLaws.{WantOfMemoryChangesNothing, RefusalsChangeNothing};
+ghost use Rattle.hse_rows.specs.laws.ScriptLaws.{LinesHaveOneAnswer, LinesAreAnswered};
+ghost use Rattle.hse_rows.specs.laws.ScriptLaws.{LinesKeepTimelines, LinesKeepNames};
+ghost use Rattle.hse_rows.specs.laws.ScriptLaws.{LinesKeepSound, ScriptsAreSound};
+ghost use Rattle.hse_rows.specs.laws.ScriptLaws.{LinesKeepIsolated, ScriptsAreIsolated};
 
 /// The phases of a sync, a creation and a drop in a row do and answer what one step would, and do
 /// likewise where a device call fails.

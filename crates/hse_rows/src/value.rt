@@ -1,6 +1,6 @@
 //! The value of a pair.
 ghost use Rattle.std.specs.Prelude.{◌≡◌, ◌≤◌, length, IfOk, IfErr};
-ghost use Rattle.hse_rows.specs.Refusals.{RefusesValue};
+ghost use Rattle.hse_rows.specs.writes.Refusals.{RefusesValue};
 
 use crate::length_fault::LengthFault;
 use crate::shared_bytes::SharedBytes;

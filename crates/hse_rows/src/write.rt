@@ -1,7 +1,7 @@
 //! A change and its store.
 ghost use Rattle.std.specs.Prelude.{◌≡◌, IfOk};
-ghost use Rattle.hse_rows.specs.Change.{write_of};
-ghost use Rattle.hse_rows.specs.NormalForm.{write_cmp, hides};
+ghost use Rattle.hse_rows.specs.writes.Change.{write_of};
+ghost use Rattle.hse_rows.specs.writes.NormalForm.{write_cmp, hides};
 
 use crate::change::Change;
 use crate::store::StoreId;

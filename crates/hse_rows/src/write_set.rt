@@ -1,10 +1,10 @@
 //! The changes of one commit, in normal form.
 ghost use Rattle.std.specs.Prelude.{◌≡◌, ◌↔◌, ◌+◌, ◌^◌, ◌<◌, [], ◌∷◌, ◌++◌, length, slice_index_or, IsTrue, OnOk, OnErr, IfOk};
 ghost use Rattle.hse_rows.specs.declared.write.Write.{Write as a_write};
-ghost use Rattle.hse_rows.specs.Change.{change_of, write_of, FitsLimits};
+ghost use Rattle.hse_rows.specs.writes.Change.{change_of, write_of, FitsLimits};
 ghost use Rattle.std.specs.List.Sorted.{IsStrictlySortedBy};
-ghost use Rattle.hse_rows.specs.NormalForm.{normal_form, write_cmp, Continues};
-ghost use Rattle.hse_rows.specs.Charge.{charge_of, writes_bytes};
+ghost use Rattle.hse_rows.specs.writes.NormalForm.{normal_form, write_cmp, Continues};
+ghost use Rattle.hse_rows.specs.writes.Charge.{charge_of, writes_bytes};
 
 use crate::change::{Change, ChangeRef};
 use crate::places::{kept_bytes, put};
@@ -29,7 +29,7 @@ impl Model for WriteSet {
 
     ghost Value = { List Write };
 
-    ghost use Rattle.hse_rows.specs.Sets.{writes_of, IsSet};
+    ghost use Rattle.hse_rows.specs.writes.Sets.{writes_of, IsSet};
 
     ghost view = { writes_of };
 

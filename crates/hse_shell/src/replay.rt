@@ -3,7 +3,7 @@ ghost use Rattle.std.specs.Prelude.{◌≡◌, ◌+◌, ◌<◌, ◌≤◌, ◌�
 ghost use Rattle.std.specs.FinMap as map;
 ghost use Rattle.gate_log.specs.Places.{region_of};
 ghost use Rattle.gate_log.specs.Reading.{IsFront, LiesInside, payloads_of};
-ghost use Rattle.hse_rows.specs.Change.{change_of};
+ghost use Rattle.hse_rows.specs.writes.Change.{change_of};
 ghost use Rattle.wal.specs.Logged.{logged_change, logged_all, entries_of};
 ghost use Rattle.hse_shell.specs.Stored.{device_size, log_region, IsLogSequence, changed, changed_all, replayed};
 ghost use Rattle.hse_shell.specs.Replayed.{IsOpening, IsInBounds};

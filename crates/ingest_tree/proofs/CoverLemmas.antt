@@ -9,10 +9,10 @@ use Rattle.std.specs.List.Sorted.{IsStrictlySortedBy}
 use Rattle.std.specs.Cmp.Lexicographic.{bytes_decides}
 use Rattle.hse_rows.specs.declared.change.Change.{Change}
 use Rattle.hse_rows.specs.declared.change.Change.TheVariants.{Put, Del, PDel}
-use Rattle.hse_rows.specs.Change.{target, covers, Covers}
-use Rattle.hse_rows.specs.Covering.{covers-is}
-use Rattle.hse_rows.specs.NormalForm.{rank, same}
-use Rattle.hse_rows.specs.Meaning.{is_covering, greater, covered_at}
+use Rattle.hse_rows.specs.writes.Change.{target, covers, Covers}
+use Rattle.hse_rows.specs.laws.Covering.{covers-is}
+use Rattle.hse_rows.specs.writes.NormalForm.{rank, same}
+use Rattle.hse_rows.specs.rows.Meaning.{is_covering, greater, covered_at}
 use Rattle.sorted_lists.specs.laws.Parts.{find-none}
 use Rattle.ingest_tree.specs.declared.store_row.StoreRow.{StoreRow}
 use Rattle.ingest_tree.specs.Rows.{row, store_row_cmp, rows_in}

@@ -9,9 +9,9 @@ use Rattle.std.specs.List.Sorted.{IsStrictlySortedBy}
 use Rattle.std.specs.Cmp.{IsTotalOrder, first_so}
 use Rattle.hse_rows.specs.declared.row.Row.{Row}
 use Rattle.hse_rows.specs.declared.store.StoreId.{StoreId}
-use Rattle.hse_rows.specs.Sorted.{placed}
-use Rattle.hse_rows.specs.Newest.{row_cmp}
-use Rattle.hse_rows.specs.Meaning.{with_row}
+use Rattle.hse_rows.specs.writes.Sorted.{placed}
+use Rattle.hse_rows.specs.rows.Newest.{row_cmp}
+use Rattle.hse_rows.specs.rows.Meaning.{with_row}
 use Rattle.sorted_lists.specs.Places.{is_apart}
 use Rattle.sorted_lists.specs.laws.Lists.{each-filter}
 use Rattle.sorted_lists.specs.laws.Orders.{placed-front, below-below, rising-filter}

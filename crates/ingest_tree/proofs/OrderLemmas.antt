@@ -5,10 +5,10 @@ use Rattle.std.specs.Ordering.{is_lt, is_eq}
 use Rattle.std.specs.Cmp.{IsTotalOrder, then_total, on_total, nat_cmp_total}
 use Rattle.std.specs.Cmp.Lexicographic.{nat_list_cmp_total}
 use Rattle.hse_rows.specs.declared.row.Row.{Row}
-use Rattle.hse_rows.specs.Change.{target}
-use Rattle.hse_rows.specs.NormalForm.{rank}
-use Rattle.hse_rows.specs.Sorted.{placed}
-use Rattle.hse_rows.specs.Newest.{row_cmp}
+use Rattle.hse_rows.specs.writes.Change.{target}
+use Rattle.hse_rows.specs.writes.NormalForm.{rank}
+use Rattle.hse_rows.specs.writes.Sorted.{placed}
+use Rattle.hse_rows.specs.rows.Newest.{row_cmp}
 use Rattle.sorted_lists.specs.Places.{with_one}
 use Rattle.sorted_lists.specs.laws.Orders.{turned}
 use Rattle.ingest_tree.specs.declared.store_row.StoreRow.{StoreRow}

@@ -11,9 +11,9 @@ use Rattle.std.specs.List.Sorted.{IsStrictlySortedBy}
 use Rattle.hse_rows.specs.declared.change.Change.{Change}
 use Rattle.hse_rows.specs.declared.change.Change.TheVariants.{Put, Del, PDel}
 use Rattle.hse_rows.specs.declared.row.Row.{Row}
-use Rattle.hse_rows.specs.Change.{FitsLimits}
-use Rattle.hse_rows.specs.Newest.{row_cmp}
-use Rattle.hse_rows.specs.RowSets.{AreRows, is_before, place_of}
+use Rattle.hse_rows.specs.writes.Change.{FitsLimits}
+use Rattle.hse_rows.specs.rows.Newest.{row_cmp}
+use Rattle.hse_rows.specs.rows.RowSets.{AreRows, is_before, place_of}
 use Rattle.sorted_lists.specs.laws.Lists.{each-weaker, each-filter, filter-all, filter-none}
 use Rattle.sorted_lists.specs.laws.Orders.{rising-filter}
 use Rattle.sorted_lists.specs.laws.Parts.{filter-append, IsCut, cut-counted}

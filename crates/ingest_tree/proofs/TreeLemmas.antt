@@ -4,7 +4,7 @@ use Rattle.std.proofs.Math.Nat.{le-div_iff_mul-le}
 use Rattle.std.specs.List.{filter, flat_map}
 use Rattle.std.specs.List.Sorted.{IsStrictlySortedBy}
 use Rattle.hse_rows.specs.declared.change.Change.{Change}
-use Rattle.hse_rows.specs.Change.{FitsLimits}
+use Rattle.hse_rows.specs.writes.Change.{FitsLimits}
 use Rattle.sorted_lists.specs.Places.{is_apart, with_one}
 use Rattle.sorted_lists.specs.laws.Lists.{each-weaker, each-filter}
 use Rattle.sorted_lists.specs.laws.Orders.{each-placed, rising-replaced}

@@ -12,10 +12,10 @@ use Rattle.hse_rows.specs.declared.change.Change.{Change}
 use Rattle.hse_rows.specs.declared.change.Change.TheVariants.{Put, Del, PDel}
 use Rattle.hse_rows.specs.declared.row.Row.{Row}
 use Rattle.hse_rows.specs.declared.store.StoreId.{StoreId}
-use Rattle.hse_rows.specs.Change.{target}
-use Rattle.hse_rows.specs.NormalForm.{rank, same}
-use Rattle.hse_rows.specs.Newest.{row_cmp}
-use Rattle.hse_rows.specs.Meaning.{is_own, newer, own_at}
+use Rattle.hse_rows.specs.writes.Change.{target}
+use Rattle.hse_rows.specs.writes.NormalForm.{rank, same}
+use Rattle.hse_rows.specs.rows.Newest.{row_cmp}
+use Rattle.hse_rows.specs.rows.Meaning.{is_own, newer, own_at}
 use Rattle.sorted_lists.specs.laws.Lists.{each-weaker}
 use Rattle.sorted_lists.specs.laws.Orders.{turned}
 use Rattle.sorted_lists.specs.laws.Parts.{find-none}

@@ -1,8 +1,8 @@
 -- The greatest number of a prefix delete that covers a key, by the lengths of prefixes.
 use Rattle.std.specs.Prelude.{ℕ, ◌==◌, nat_lt, Bool, ◌&&◌, cond, List, [], ◌∷◌, length, take, Option, Some, None}
 use Rattle.hse_rows.specs.declared.change.Change.TheVariants.{PDel}
-use Rattle.hse_rows.specs.Change.{target}
-use Rattle.hse_rows.specs.Meaning.{is_covering, greater}
+use Rattle.hse_rows.specs.writes.Change.{target}
+use Rattle.hse_rows.specs.rows.Meaning.{is_covering, greater}
 use Rattle.ingest_tree.specs.declared.store_row.StoreRow.{StoreRow}
 use Rattle.ingest_tree.specs.Rows.{row, store_row}
 

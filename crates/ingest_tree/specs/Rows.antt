@@ -8,9 +8,9 @@ use Rattle.hse_rows.specs.declared.row.Row.{Row}
 use Rattle.hse_rows.specs.declared.row.RowRef.{RowRef}
 use Rattle.hse_rows.specs.declared.store.StoreId.{StoreId}
 use Rattle.hse_rows.specs.declared.change.Change.{Change}
-use Rattle.hse_rows.specs.Change.{change_of}
-use Rattle.hse_rows.specs.Newest.{row_cmp}
-use Rattle.hse_rows.specs.RowSets.{row_of}
+use Rattle.hse_rows.specs.writes.Change.{change_of}
+use Rattle.hse_rows.specs.rows.Newest.{row_cmp}
+use Rattle.hse_rows.specs.rows.RowSets.{row_of}
 use Rattle.sorted_lists.specs.Places.{with_one}
 use Rattle.ingest_tree.specs.declared.store_row.StoreRow.{StoreRow}
 use Rattle.ingest_tree.specs.declared.store_row.Spot.{Spot}

@@ -2,7 +2,7 @@
 use Rattle.std.specs.Prelude.{◌≡◌, ℕ, ◌==◌, false, List}
 use Rattle.hse_rows.specs.declared.row.Row.{Row}
 use Rattle.hse_rows.specs.declared.store.StoreId.{StoreId}
-use Rattle.hse_rows.specs.Meaning.{with_row}
+use Rattle.hse_rows.specs.rows.Meaning.{with_row}
 use Rattle.ingest_tree.specs.declared.store_row.StoreRow.{StoreRow}
 use Rattle.ingest_tree.specs.Rows.{store_row, rows_in, rows_with, AreRising}
 

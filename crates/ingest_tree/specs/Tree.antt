@@ -2,7 +2,7 @@
 use Rattle.std.specs.Prelude.{ℕ, List, [], ◌∷◌, Option, Some, None}
 use Rattle.std.specs.List.{AllByRecursion, flat_map}
 use Rattle.std.specs.List.Sorted.{IsStrictlySortedBy}
-use Rattle.hse_rows.specs.Change.{FitsLimits}
+use Rattle.hse_rows.specs.writes.Change.{FitsLimits}
 use Rattle.ingest_tree.specs.declared.store_row.StoreRow.{StoreRow}
 use Rattle.ingest_tree.specs.declared.tree.IngestTree.TheInside.{Inside}
 use Rattle.ingest_tree.specs.Rows.{store_row_cmp}

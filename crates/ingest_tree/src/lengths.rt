@@ -1,7 +1,7 @@
 //! Which lengths of prefixes are in use.
 ghost use Rattle.std.specs.Prelude.{◌≡◌};
 ghost use Rattle.hse_rows.specs.declared.change.Change.{Change as a_change};
-ghost use Rattle.hse_rows.specs.Change.{FitsLimits};
+ghost use Rattle.hse_rows.specs.writes.Change.{FitsLimits};
 ghost use Rattle.ingest_tree.specs.Lengths.{IsInUse};
 
 use hse_rows::Change;

@@ -1,9 +1,9 @@
 //! A row with its store.
 ghost use Rattle.std.specs.Prelude.{◌≡◌, IfOk};
-ghost use Rattle.hse_rows.specs.Change.{change_of, target, FitsLimits};
-ghost use Rattle.hse_rows.specs.NormalForm.{rank};
-ghost use Rattle.hse_rows.specs.RowSets.{row_of};
-ghost use Rattle.hse_rows.specs.Newest.{row_cmp};
+ghost use Rattle.hse_rows.specs.writes.Change.{change_of, target, FitsLimits};
+ghost use Rattle.hse_rows.specs.writes.NormalForm.{rank};
+ghost use Rattle.hse_rows.specs.rows.RowSets.{row_of};
+ghost use Rattle.hse_rows.specs.rows.Newest.{row_cmp};
 ghost use Rattle.ingest_tree.specs.Rows.{row, item_of, store_row_cmp, row_at};
 ghost use Rattle.ingest_tree.specs.StoreRows.{first_at};
 

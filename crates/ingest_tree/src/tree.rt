@@ -2,8 +2,8 @@
 ghost use Rattle.std.specs.Prelude.{◌≡◌, ◌≤◌, ◌+◌, ◌*◌, ◌/◌, ◌<◌};
 ghost use Rattle.std.specs.Prelude.{[], ◌∷◌, length, reverse, slice_get, Some, IfOk};
 ghost use Rattle.std.specs.Option.{option_map};
-ghost use Rattle.hse_rows.specs.Meaning.{own_at, covered_at, greater as greatest_of};
-ghost use Rattle.hse_rows.specs.RowSets.{row_by};
+ghost use Rattle.hse_rows.specs.rows.Meaning.{own_at, covered_at, greater as greatest_of};
+ghost use Rattle.hse_rows.specs.rows.RowSets.{row_by};
 ghost use Rattle.ingest_tree.specs.Rows.{AreRising, store_row, rows_in, row_at};
 ghost use Rattle.ingest_tree.specs.Rows.{rows_with, found_at, count_before};
 ghost use Rattle.ingest_tree.specs.declared.store_row.StoreRow.{StoreRow as a_row};

@@ -7,8 +7,8 @@ use Rattle.std.specs.List.Sorted.{IsStrictlySortedBy}
 use Rattle.hse_rows.specs.declared.row.Row.{Row}
 use Rattle.hse_rows.specs.declared.change.Change.{Change}
 use Rattle.hse_rows.specs.declared.change.Change.TheVariants.{Put, Del, PDel}
-use Rattle.hse_rows.specs.NormalForm.{rank}
-use Rattle.hse_rows.specs.Newest.{row_cmp}
+use Rattle.hse_rows.specs.writes.NormalForm.{rank}
+use Rattle.hse_rows.specs.rows.Newest.{row_cmp}
 use Rattle.row_laws.specs.Merging.{is_key_row}
 use Rattle.sorted_lists.specs.laws.Lists.{each-weaker}
 use Rattle.prefix_delete.specs.declared.entry.Entry.{Entry}

@@ -7,10 +7,10 @@ use Rattle.std.specs.Ordering.{nat_cmp, is_gt, ordering_reverse}
 use Rattle.std.specs.Cmp.Lexicographic.{slice_cmp}
 use Rattle.std.specs.List.Sorted.{IsStrictlySortedBy}
 use Rattle.hse_rows.specs.declared.row.Row.{Row}
-use Rattle.hse_rows.specs.Change.{target}
-use Rattle.hse_rows.specs.Newest.{row_cmp}
-use Rattle.hse_rows.specs.Meaning.{is_own, own_at}
-use Rattle.hse_rows.specs.Cursor.{Position, forward, backward, past_key, direction_cmp, is_reached}
+use Rattle.hse_rows.specs.writes.Change.{target}
+use Rattle.hse_rows.specs.rows.Newest.{row_cmp}
+use Rattle.hse_rows.specs.rows.Meaning.{is_own, own_at}
+use Rattle.hse_rows.specs.script.Cursor.{Position, forward, backward, past_key, direction_cmp, is_reached}
 use Rattle.row_laws.specs.Merging.{is_key_row}
 use Rattle.sorted_lists.specs.laws.Orders.{turned}
 use Rattle.merge.specs.Places.{stands_before, place_by, if_key, is_of}

@@ -10,11 +10,11 @@ use Rattle.std.specs.Cmp.Lexicographic.{slice_cmp}
 use Rattle.std.specs.List.{AllByRecursion, filter}
 use Rattle.std.specs.List.Sorted.{IsStrictlySortedBy}
 use Rattle.hse_rows.specs.declared.row.Row.{Row}
-use Rattle.hse_rows.specs.Change.{target}
-use Rattle.hse_rows.specs.Newest.{row_cmp, newest}
-use Rattle.hse_rows.specs.RowSets.{AreRows}
-use Rattle.hse_rows.specs.Meaning.{is_own, newer, own_at}
-use Rattle.hse_rows.specs.Cursor.{Direction, Position, forward, backward, directed, direction_cmp, is_reached, first_of}
+use Rattle.hse_rows.specs.writes.Change.{target}
+use Rattle.hse_rows.specs.rows.Newest.{row_cmp, newest}
+use Rattle.hse_rows.specs.rows.RowSets.{AreRows}
+use Rattle.hse_rows.specs.rows.Meaning.{is_own, newer, own_at}
+use Rattle.hse_rows.specs.script.Cursor.{Direction, Position, forward, backward, directed, direction_cmp, is_reached, first_of}
 use Rattle.row_laws.specs.Sources.{all_rows}
 use Rattle.row_laws.specs.Merging.{is_key_row, key_rows, next_by, AreTwoKeys, AreOncePerNumber}
 use Rattle.row_laws.specs.Next.{lasting_at, OwnFalls}

@@ -7,7 +7,7 @@ use Rattle.std.specs.Cmp.{IsTotalOrder}
 use Rattle.std.proofs.lemmas.Cmp.{tied_itself}
 use Rattle.std.specs.Cmp.Lexicographic.{slice_cmp, nat_list_cmp_total}
 use Rattle.std.specs.FinMap.{IsAntisymmetric, slice_cmp-IsAntisymmetric, nat_cmp-IsAntisymmetric}
-use Rattle.hse_rows.specs.Cursor.{Direction, Position, forward, backward, front, at_key, past_key, direction_cmp, is_reached}
+use Rattle.hse_rows.specs.script.Cursor.{Direction, Position, forward, backward, front, at_key, past_key, direction_cmp, is_reached}
 use Rattle.sorted_lists.specs.laws.Orders.{turned}
 
 twice : (r : Ordering) → ordering_reverse (ordering_reverse r) ≡ r

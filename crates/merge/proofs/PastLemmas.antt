@@ -7,10 +7,10 @@ use Rattle.std.specs.Prelude.{IfSome, slice_get}
 use Rattle.std.specs.Ordering.{is_gt}
 use Rattle.std.specs.List.{AllByRecursion}
 use Rattle.hse_rows.specs.declared.row.Row.{Row}
-use Rattle.hse_rows.specs.Change.{target}
-use Rattle.hse_rows.specs.RowSets.{AreRows}
-use Rattle.hse_rows.specs.Meaning.{is_own, is_covering, own_at, covered_at, greater}
-use Rattle.hse_rows.specs.Cursor.{Direction, Position, past_key, direction_cmp, is_reached}
+use Rattle.hse_rows.specs.writes.Change.{target}
+use Rattle.hse_rows.specs.rows.RowSets.{AreRows}
+use Rattle.hse_rows.specs.rows.Meaning.{is_own, is_covering, own_at, covered_at, greater}
+use Rattle.hse_rows.specs.script.Cursor.{Direction, Position, past_key, direction_cmp, is_reached}
 use Rattle.row_laws.specs.Sources.{all_rows}
 use Rattle.row_laws.specs.Next.{covered_in, row_lasting, lasting_at, IsPast, OwnFalls}
 use Rattle.sorted_lists.specs.laws.Orders.{turned}

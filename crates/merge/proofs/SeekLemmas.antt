@@ -7,12 +7,12 @@ use Rattle.std.specs.Ordering.{nat_cmp, is_lt, is_gt, is_ge, ordering_reverse}
 use Rattle.std.specs.Cmp.Lexicographic.{slice_cmp}
 use Rattle.std.specs.List.Sorted.{IsStrictlySortedBy}
 use Rattle.hse_rows.specs.declared.row.Row.{Row}
-use Rattle.hse_rows.specs.Change.{target}
-use Rattle.hse_rows.specs.NormalForm.{rank}
-use Rattle.hse_rows.specs.Newest.{row_cmp}
-use Rattle.hse_rows.specs.Meaning.{own_at}
-use Rattle.hse_rows.specs.RowSets.{is_before, place_of}
-use Rattle.hse_rows.specs.Cursor.{forward, backward, front, at_key, past_key, is_reached}
+use Rattle.hse_rows.specs.writes.Change.{target}
+use Rattle.hse_rows.specs.writes.NormalForm.{rank}
+use Rattle.hse_rows.specs.rows.Newest.{row_cmp}
+use Rattle.hse_rows.specs.rows.Meaning.{own_at}
+use Rattle.hse_rows.specs.rows.RowSets.{is_before, place_of}
+use Rattle.hse_rows.specs.script.Cursor.{forward, backward, front, at_key, past_key, is_reached}
 use Rattle.sorted_lists.specs.laws.Lists.{filter-alike}
 use Rattle.merge.specs.Places.{stands_before, place_by, passed, all_placed}
 use Rattle.merge.specs.First.{IsFirstIn}

@@ -8,11 +8,11 @@ use Rattle.std.specs.Ordering.{is_lt}
 use Rattle.std.specs.List.{AllByRecursion}
 use Rattle.std.specs.List.Sorted.{IsStrictlySortedBy}
 use Rattle.hse_rows.specs.declared.row.Row.{Row}
-use Rattle.hse_rows.specs.Change.{target}
-use Rattle.hse_rows.specs.Newest.{row_cmp}
-use Rattle.hse_rows.specs.Meaning.{is_own, newer, own_at}
-use Rattle.hse_rows.specs.RowSets.{AreRows}
-use Rattle.hse_rows.specs.Cursor.{Direction, Position, forward, backward, past_key, direction_cmp, is_reached}
+use Rattle.hse_rows.specs.writes.Change.{target}
+use Rattle.hse_rows.specs.rows.Newest.{row_cmp}
+use Rattle.hse_rows.specs.rows.Meaning.{is_own, newer, own_at}
+use Rattle.hse_rows.specs.rows.RowSets.{AreRows}
+use Rattle.hse_rows.specs.script.Cursor.{Direction, Position, forward, backward, past_key, direction_cmp, is_reached}
 use Rattle.row_laws.specs.Sources.{all_rows}
 use Rattle.row_laws.specs.Next.{OwnFalls}
 use Rattle.sorted_lists.specs.laws.Orders.{less-then}

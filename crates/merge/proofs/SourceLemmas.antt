@@ -13,11 +13,11 @@ use Rattle.std.specs.List.Sorted.{IsStrictlySortedBy}
 use Rattle.hse_rows.specs.declared.change.Change.{Change}
 use Rattle.hse_rows.specs.declared.change.Change.TheVariants.{Put, Del, PDel}
 use Rattle.hse_rows.specs.declared.row.Row.{Row}
-use Rattle.hse_rows.specs.Change.{target}
-use Rattle.hse_rows.specs.NormalForm.{rank}
-use Rattle.hse_rows.specs.Reach.{reaches}
-use Rattle.hse_rows.specs.Newest.{row_cmp}
-use Rattle.hse_rows.specs.Meaning.{is_own, newer, own_at}
+use Rattle.hse_rows.specs.writes.Change.{target}
+use Rattle.hse_rows.specs.writes.NormalForm.{rank}
+use Rattle.hse_rows.specs.writes.Reach.{reaches}
+use Rattle.hse_rows.specs.rows.Newest.{row_cmp}
+use Rattle.hse_rows.specs.rows.Meaning.{is_own, newer, own_at}
 use Rattle.row_laws.specs.Merging.{is_key_row}
 
 -- ---- rows of keys

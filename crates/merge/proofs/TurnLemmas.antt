@@ -6,11 +6,11 @@ use Rattle.std.specs.declared.cmp.Ordering.TheVariants.{Less}
 use Rattle.std.specs.List.{AllByRecursion}
 use Rattle.std.specs.List.Sorted.{IsStrictlySortedBy}
 use Rattle.hse_rows.specs.declared.row.Row.{Row}
-use Rattle.hse_rows.specs.NormalForm.{rank}
-use Rattle.hse_rows.specs.Newest.{row_cmp}
-use Rattle.hse_rows.specs.Reach.{reaches}
-use Rattle.hse_rows.specs.Meaning.{is_own, greater, covered_at}
-use Rattle.hse_rows.specs.Cursor.{Direction, forward, backward}
+use Rattle.hse_rows.specs.writes.NormalForm.{rank}
+use Rattle.hse_rows.specs.rows.Newest.{row_cmp}
+use Rattle.hse_rows.specs.writes.Reach.{reaches}
+use Rattle.hse_rows.specs.rows.Meaning.{is_own, greater, covered_at}
+use Rattle.hse_rows.specs.script.Cursor.{Direction, forward, backward}
 use Rattle.row_laws.specs.Merging.{is_key_row}
 use Rattle.sorted_lists.specs.laws.Lists.{each-weaker}
 use Rattle.merge.specs.Places.{if_key, index_from, head_from, is_of, passed, all_passed, sooner, soonest, left_from, all_left, IsHead}

@@ -2,8 +2,8 @@
 use Rattle.std.specs.Prelude.{◌≡◌, ℕ, Bool, true, List, Option, Some, None}
 use Rattle.std.specs.declared.cmp.Ordering.TheVariants.{Less}
 use Rattle.hse_rows.specs.declared.row.Row.{Row}
-use Rattle.hse_rows.specs.Change.{target}
-use Rattle.hse_rows.specs.Cursor.{Direction, direction_cmp}
+use Rattle.hse_rows.specs.writes.Change.{target}
+use Rattle.hse_rows.specs.script.Cursor.{Direction, direction_cmp}
 
 -- Of the rows that each key has, that of the first key in a direction among the keys that are asked for.
 abbrev pub IsFirstIn : Direction → (List ℕ → Option Row) → (List ℕ → Bool) → Option Row → Type 0

@@ -1,8 +1,8 @@
 -- What a merge is to its callers.
 use Rattle.std.specs.Prelude.{◌≡◌, ℕ, List, Option, Some, None}
 use Rattle.hse_rows.specs.declared.row.Row.{Row}
-use Rattle.hse_rows.specs.Change.{target}
-use Rattle.hse_rows.specs.Cursor.{Direction, Position, past_key, is_reached}
+use Rattle.hse_rows.specs.writes.Change.{target}
+use Rattle.hse_rows.specs.script.Cursor.{Direction, Position, past_key, is_reached}
 use Rattle.row_laws.specs.Sources.{all_rows}
 use Rattle.row_laws.specs.Merging.{next_by}
 use Rattle.row_laws.specs.Next.{OwnFalls, lasting_at}

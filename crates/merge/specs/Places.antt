@@ -3,10 +3,10 @@ use Rattle.std.specs.Prelude.{◌≡◌, ℕ, zero, suc, ◌+◌, ◌-◌, ◌==
 use Rattle.std.specs.List.{filter}
 use Rattle.std.specs.Ordering.{is_lt}
 use Rattle.hse_rows.specs.declared.row.Row.{Row}
-use Rattle.hse_rows.specs.Change.{target}
-use Rattle.hse_rows.specs.NormalForm.{rank}
-use Rattle.hse_rows.specs.Meaning.{is_own}
-use Rattle.hse_rows.specs.Cursor.{Direction, Position, forward, backward, direction_cmp, is_reached}
+use Rattle.hse_rows.specs.writes.Change.{target}
+use Rattle.hse_rows.specs.writes.NormalForm.{rank}
+use Rattle.hse_rows.specs.rows.Meaning.{is_own}
+use Rattle.hse_rows.specs.script.Cursor.{Direction, Position, forward, backward, direction_cmp, is_reached}
 use Rattle.row_laws.specs.Merging.{is_key_row}
 
 abbrev pub direction_of : Bool → Direction

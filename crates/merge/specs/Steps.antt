@@ -1,8 +1,8 @@
 -- A merge goes on from a position, and what a step of it gives.
 use Rattle.std.specs.Prelude.{◌≡◌, ℕ, zero, suc, List, [], ◌∷◌, slice_get, Option, Some, None}
 use Rattle.hse_rows.specs.declared.row.Row.{Row}
-use Rattle.hse_rows.specs.Change.{target}
-use Rattle.hse_rows.specs.Cursor.{Direction, Position, past_key, is_reached}
+use Rattle.hse_rows.specs.writes.Change.{target}
+use Rattle.hse_rows.specs.script.Cursor.{Direction, Position, past_key, is_reached}
 use Rattle.row_laws.specs.Sources.{all_rows}
 use Rattle.row_laws.specs.Next.{lasting_at, IsPast}
 use Rattle.merge.specs.Places.{places_by}

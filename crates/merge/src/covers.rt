@@ -1,8 +1,8 @@
 //! Prefix deletes that cover a key, in several sources.
 ghost use Rattle.std.specs.Prelude.{◌≡◌, map, Some, None, if◌then◌else◌};
 ghost use Rattle.std.specs.List.{AllByRecursion};
-ghost use Rattle.hse_rows.specs.Meaning.{covered_at, greater as greatest_of};
-ghost use Rattle.hse_rows.specs.RowSets.{AreRows, row_of, row_by};
+ghost use Rattle.hse_rows.specs.rows.Meaning.{covered_at, greater as greatest_of};
+ghost use Rattle.hse_rows.specs.rows.RowSets.{AreRows, row_of, row_by};
 ghost use Rattle.row_laws.specs.Next.{covered_in, row_lasting};
 
 use hse_rows::{ChangeRef, RowRef, RowSet};

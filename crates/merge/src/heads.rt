@@ -1,11 +1,11 @@
 //! The next row of each source, and the soonest of them.
 ghost use Rattle.std.specs.Prelude.{◌≡◌, ◌<◌, if◌then◌else◌, true, false, IfSome, Some};
 ghost use Rattle.std.specs.Prelude.{length as number_of};
-ghost use Rattle.hse_rows.specs.Change.{target};
-ghost use Rattle.hse_rows.specs.Meaning.{is_own};
-ghost use Rattle.hse_rows.specs.RowSets.{row_of, row_by};
+ghost use Rattle.hse_rows.specs.writes.Change.{target};
+ghost use Rattle.hse_rows.specs.rows.Meaning.{is_own};
+ghost use Rattle.hse_rows.specs.rows.RowSets.{row_of, row_by};
 ghost use Rattle.std.specs.Ordering.{is_lt};
-ghost use Rattle.hse_rows.specs.Cursor.{direction_cmp};
+ghost use Rattle.hse_rows.specs.script.Cursor.{direction_cmp};
 ghost use Rattle.row_laws.specs.Merging.{is_key_row};
 ghost use Rattle.merge.specs.Places.{direction_of, head_from, index_from, passed, sooner};
 

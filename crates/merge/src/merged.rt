@@ -1,8 +1,8 @@
 //! A merge of sources.
 ghost use Rattle.std.specs.Prelude.{◌≡◌, ℕ, List, map, Option, None, IfOk, IfSome};
 ghost use Rattle.hse_rows.specs.declared.row.Row.{Row as a_row};
-ghost use Rattle.hse_rows.specs.RowSets.{row_of, row_by};
-ghost use Rattle.hse_rows.specs.Cursor.{forward, front};
+ghost use Rattle.hse_rows.specs.rows.RowSets.{row_of, row_by};
+ghost use Rattle.hse_rows.specs.script.Cursor.{forward, front};
 ghost use Rattle.row_laws.specs.Next.{OwnFalls, position_of};
 ghost use Rattle.merge.specs.Places.{direction_of, places_by};
 ghost use Rattle.merge.specs.Steps.{IsRowAt};

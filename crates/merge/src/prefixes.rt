@@ -1,7 +1,7 @@
 //! The prefix deletes of several sources.
 ghost use Rattle.std.specs.Prelude.{◌≡◌, length, map, OnOk, IfOk};
-ghost use Rattle.hse_rows.specs.RowSets.{AreRows};
-ghost use Rattle.hse_rows.specs.Lengths.{IsPrefixLength};
+ghost use Rattle.hse_rows.specs.rows.RowSets.{AreRows};
+ghost use Rattle.hse_rows.specs.writes.Lengths.{IsPrefixLength};
 ghost use Rattle.prefix_delete.specs.Prefixes.{entry_of, with_entry};
 ghost use Rattle.merge.specs.Deletes.{with_deletes, all_deletes};
 

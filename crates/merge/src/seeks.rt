@@ -1,6 +1,6 @@
 //! The places of a position.
 ghost use Rattle.std.specs.Prelude.{◌≡◌, [], length as number_of, map, IfOk};
-ghost use Rattle.hse_rows.specs.Cursor.{forward, front};
+ghost use Rattle.hse_rows.specs.script.Cursor.{forward, front};
 ghost use Rattle.row_laws.specs.Next.{position_of};
 ghost use Rattle.merge.specs.Places.{direction_of, place_by, places_by};
 

@@ -2,8 +2,8 @@
 ghost use Rattle.std.specs.Prelude.{◌≡◌, ◌⊎◌, ℕ, List, length as number_of, map, Some, None, IfSome};
 ghost use Rattle.std.specs.Option.{option_map};
 ghost use Rattle.std.specs.List.{AllByRecursion};
-ghost use Rattle.hse_rows.specs.RowSets.{AreRows, row_of, row_by};
-ghost use Rattle.hse_rows.specs.Cursor.{Position};
+ghost use Rattle.hse_rows.specs.rows.RowSets.{AreRows, row_of, row_by};
+ghost use Rattle.hse_rows.specs.script.Cursor.{Position};
 ghost use Rattle.row_laws.specs.Next.{OwnFalls};
 ghost use Rattle.merge.specs.Places.{direction_of, all_passed, sooner, soonest, IsHead};
 ghost use Rattle.merge.specs.Steps.{GoesOn, AreAt, Given};

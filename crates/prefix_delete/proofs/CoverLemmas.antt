@@ -11,10 +11,10 @@ use Rattle.std.specs.FinMap.{IsAntisymmetric, slice_cmp-IsAntisymmetric, nat_cmp
 use Rattle.std.proofs.lemmas.Cmp.{tied_itself}
 use Rattle.std.specs.List.{AllByRecursion, filter, find}
 use Rattle.std.specs.List.Sorted.{IsStrictlySortedBy}
-use Rattle.hse_rows.specs.Change.{covers}
-use Rattle.hse_rows.specs.Covering.{covers-is}
-use Rattle.hse_rows.specs.Lengths.{IsPrefixLength}
-use Rattle.hse_rows.specs.Meaning.{greater, covered_at}
+use Rattle.hse_rows.specs.writes.Change.{covers}
+use Rattle.hse_rows.specs.laws.Covering.{covers-is}
+use Rattle.hse_rows.specs.writes.Lengths.{IsPrefixLength}
+use Rattle.hse_rows.specs.rows.Meaning.{greater, covered_at}
 use Rattle.sorted_lists.specs.laws.Lists.{each-weaker, filter-all}
 use Rattle.prefix_delete.specs.declared.entry.Entry.{Entry}
 use Rattle.prefix_delete.specs.Prefixes.{prefix_cmp, probe, rows_of, number_in, number_at, IsUsed}

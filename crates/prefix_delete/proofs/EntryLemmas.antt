@@ -7,8 +7,8 @@ use Rattle.std.specs.Ordering.{is_eq}
 use Rattle.std.proofs.lemmas.Cmp.{tied_itself}
 use Rattle.std.specs.List.{AllByRecursion, filter, find, insert}
 use Rattle.std.specs.List.Sorted.{IsStrictlySortedBy, IsBinarySearchResult}
-use Rattle.hse_rows.specs.Lengths.{IsPrefixLength}
-use Rattle.hse_rows.specs.Sorted.{placed}
+use Rattle.hse_rows.specs.writes.Lengths.{IsPrefixLength}
+use Rattle.hse_rows.specs.writes.Sorted.{placed}
 use Rattle.sorted_lists.specs.Places.{is_apart, IsPlace}
 use Rattle.sorted_lists.specs.laws.Lists.{each-weaker, each-filter}
 use Rattle.sorted_lists.specs.laws.Orders.{rising-replaced, each-placed, set-found, insert-missing, apart-missing, place-searched}

@@ -7,7 +7,7 @@ use Rattle.std.specs.Ordering.{nat_cmp, is_eq, on}
 use Rattle.std.specs.Cmp.Lexicographic.{slice_cmp}
 use Rattle.hse_rows.specs.declared.row.Row.{Row}
 use Rattle.hse_rows.specs.declared.change.Change.TheVariants.{PDel}
-use Rattle.hse_rows.specs.Lengths.{IsPrefixLength}
+use Rattle.hse_rows.specs.writes.Lengths.{IsPrefixLength}
 use Rattle.sorted_lists.specs.Places.{with_one}
 use Rattle.prefix_delete.specs.declared.entry.Entry.{Entry}
 

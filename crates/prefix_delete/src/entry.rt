@@ -1,7 +1,7 @@
 //! A prefix and the number of its deletion, and a search for one in order.
 ghost use Rattle.std.specs.Prelude.{◌≡◌, length};
 ghost use Rattle.std.specs.List.Sorted.{IsBinarySearchResult, IsSearchInRange, IsStrictlySortedBy};
-ghost use Rattle.hse_rows.specs.Meaning.{greater as greatest_of};
+ghost use Rattle.hse_rows.specs.rows.Meaning.{greater as greatest_of};
 ghost use Rattle.prefix_delete.specs.Prefixes.{prefix_cmp, probe, number_at};
 
 use hse_rows::Prefix;

@@ -2,7 +2,7 @@
 ghost use Rattle.std.specs.Prelude.{◌≡◌, ◌<◌, ◌≤◌, ◌==◌, [], length as number_of_all, slice_get, Some, OnOk, OnErr};
 ghost use Rattle.std.specs.List.{filter};
 ghost use Rattle.std.specs.List.Sorted.{IsStrictlySortedBy};
-ghost use Rattle.hse_rows.specs.Meaning.{covered_at};
+ghost use Rattle.hse_rows.specs.rows.Meaning.{covered_at};
 ghost use Rattle.prefix_delete.specs.Prefixes.{ArePrefixes, IsUsed, AreUsed, prefix_cmp, entry_of, rows_of, with_entry};
 
 use crate::entry::{Entry, greater, number_of, place};

@@ -14,15 +14,15 @@ use Rattle.std.specs.FinMap as fin_map
 use Rattle.hse_rows.specs.declared.change.Change.{Change}
 use Rattle.hse_rows.specs.declared.change.Change.TheVariants.{Put, Del, PDel}
 use Rattle.hse_rows.specs.declared.row.Row.{Row}
-use Rattle.hse_rows.specs.Change.{covers, target}
-use Rattle.hse_rows.specs.Sorted.{sorted, placed}
-use Rattle.hse_rows.specs.NormalForm.{rank, same, hides_change}
-use Rattle.hse_rows.specs.Newest.{row_cmp, outdoes, once_each, newest}
-use Rattle.hse_rows.specs.Reach.{reaches, leaves}
-use Rattle.hse_rows.specs.Holding.{same_contents}
-use Rattle.hse_rows.specs.Meaning.{contents_of, is_own, is_covering, newer, own_at, greater, covered_at, said, value_said}
+use Rattle.hse_rows.specs.writes.Change.{covers, target}
+use Rattle.hse_rows.specs.writes.Sorted.{sorted, placed}
+use Rattle.hse_rows.specs.writes.NormalForm.{rank, same, hides_change}
+use Rattle.hse_rows.specs.rows.Newest.{row_cmp, outdoes, once_each, newest}
+use Rattle.hse_rows.specs.writes.Reach.{reaches, leaves}
+use Rattle.hse_rows.specs.laws.Holding.{same_contents}
+use Rattle.hse_rows.specs.rows.Meaning.{contents_of, is_own, is_covering, newer, own_at, greater, covered_at, said, value_said}
 use Rattle.row_laws.specs.Step.{AgreesWith, AreAgreed}
-use Rattle.hse_rows.specs.RowSets.{key_row}
+use Rattle.hse_rows.specs.rows.RowSets.{key_row}
 use Rattle.row_laws.specs.Merging.{is_key_row, key_rows, pairs_of, AreTwoKeys, AreOncePerNumber}
 use Rattle.sorted_lists.specs.laws.Lists.{each-weaker, each-filter}
 use Rattle.sorted_lists.specs.laws.Orders.{each-placed, rising-placed, filter-sorted}

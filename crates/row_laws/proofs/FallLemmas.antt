@@ -5,8 +5,8 @@ use Rattle.std.proofs.lemmas.List.Folds.{list_any-append}
 use Rattle.std.specs.Cmp.{second_so}
 use Rattle.std.specs.List.{AllByRecursion, list_any}
 use Rattle.hse_rows.specs.declared.row.Row.{Row}
-use Rattle.hse_rows.specs.Reach.{reaches}
-use Rattle.hse_rows.specs.Meaning.{is_own, own_at}
+use Rattle.hse_rows.specs.writes.Reach.{reaches}
+use Rattle.hse_rows.specs.rows.Meaning.{is_own, own_at}
 use Rattle.row_laws.specs.Merging.{is_key_row}
 use Rattle.row_laws.specs.Sources.{all_rows, Falls}
 use Rattle.row_laws.specs.Next.{OwnFalls}

@@ -11,13 +11,13 @@ use Rattle.std.specs.List.Sorted.{IsStrictlySortedBy}
 use Rattle.hse_rows.specs.declared.change.Change.{Change}
 use Rattle.hse_rows.specs.declared.change.Change.TheVariants.{Put, Del, PDel}
 use Rattle.hse_rows.specs.declared.row.Row.{Row}
-use Rattle.hse_rows.specs.Change.{target}
-use Rattle.hse_rows.specs.NormalForm.{rank}
-use Rattle.hse_rows.specs.Reach.{reaches}
-use Rattle.hse_rows.specs.Newest.{row_cmp}
-use Rattle.hse_rows.specs.Meaning.{is_own, newer, own_at, covered_at, greater}
+use Rattle.hse_rows.specs.writes.Change.{target}
+use Rattle.hse_rows.specs.writes.NormalForm.{rank}
+use Rattle.hse_rows.specs.writes.Reach.{reaches}
+use Rattle.hse_rows.specs.rows.Newest.{row_cmp}
+use Rattle.hse_rows.specs.rows.Meaning.{is_own, newer, own_at, covered_at, greater}
 use Rattle.row_laws.specs.Sources.{all_rows}
-use Rattle.hse_rows.specs.RowSets.{AreRows, key_row}
+use Rattle.hse_rows.specs.rows.RowSets.{AreRows, key_row}
 use Rattle.row_laws.specs.Merging.{is_key_row}
 use Rattle.row_laws.specs.Next.{is_from, is_row_from, lesser, least_after, covered_in, IsFirstRow, OwnFalls}
 use Rattle.sorted_lists.specs.laws.Lists.{each-weaker}

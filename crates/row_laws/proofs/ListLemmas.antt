@@ -4,10 +4,10 @@ use Rattle.std.proofs.lemmas.Bool.{ltb-true, ltb-false, and_from}
 use Rattle.std.specs.Cmp.{first_so, second_so}
 use Rattle.std.specs.List.{AllByRecursion, filter, list_any}
 use Rattle.hse_rows.specs.declared.row.Row.{Row}
-use Rattle.hse_rows.specs.NormalForm.{rank, hides_change}
-use Rattle.hse_rows.specs.Newest.{outdoes, once_each, newest}
-use Rattle.hse_rows.specs.Reach.{reaches}
-use Rattle.hse_rows.specs.Meaning.{is_own, is_covering, newer, own_at, greater, covered_at}
+use Rattle.hse_rows.specs.writes.NormalForm.{rank, hides_change}
+use Rattle.hse_rows.specs.rows.Newest.{outdoes, once_each, newest}
+use Rattle.hse_rows.specs.writes.Reach.{reaches}
+use Rattle.hse_rows.specs.rows.Meaning.{is_own, is_covering, newer, own_at, greater, covered_at}
 use Rattle.row_laws.specs.Merging.{is_key_row, key_rows, AreTwoKeys, AreOncePerNumber}
 use Rattle.row_laws.specs.Next.{row_lasting, lasting_at}
 use Rattle.sorted_lists.specs.laws.Lists.{each-weaker}

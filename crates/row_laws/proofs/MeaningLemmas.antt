@@ -11,14 +11,14 @@ use Rattle.std.specs.FinMap as fin_map
 use Rattle.hse_rows.specs.declared.change.Change.{Change}
 use Rattle.hse_rows.specs.declared.change.Change.TheVariants.{Put, Del, PDel}
 use Rattle.hse_rows.specs.declared.row.Row.{Row}
-use Rattle.hse_rows.specs.Sorted.{sorted}
-use Rattle.hse_rows.specs.NormalForm.{rank}
-use Rattle.hse_rows.specs.Reach.{reaches, leaves}
-use Rattle.hse_rows.specs.LastEffect.{last_effect, effect}
-use Rattle.hse_rows.specs.State.{Contents, changed}
-use Rattle.hse_rows.specs.Holding.{get-changed, same_contents}
+use Rattle.hse_rows.specs.writes.Sorted.{sorted}
+use Rattle.hse_rows.specs.writes.NormalForm.{rank}
+use Rattle.hse_rows.specs.writes.Reach.{reaches, leaves}
+use Rattle.hse_rows.specs.laws.LastEffect.{last_effect, effect}
+use Rattle.hse_rows.specs.states.State.{Contents, changed}
+use Rattle.hse_rows.specs.laws.Holding.{get-changed, same_contents}
 use Rattle.row_laws.specs.Step.{IsInOrder}
-use Rattle.hse_rows.specs.Meaning.{apply_cmp, contents_after_rows, contents_of, is_own, is_covering, newer, own_at, greater, covered_at, said, value_said}
+use Rattle.hse_rows.specs.rows.Meaning.{apply_cmp, contents_after_rows, contents_of, is_own, is_covering, newer, own_at, greater, covered_at, said, value_said}
 use Rattle.sorted_lists.specs.laws.Lists.{each-weaker}
 use Rattle.sorted_lists.specs.laws.Orders.{Ascends}
 use Rattle.row_laws.proofs.MarkLemmas.{Marked, later, later-none, later-first, later-second, later-assoc, Swap, swap-told, Where, top, where-top, MayPass, MayPassAll, top-sorted, ascends-sorted}

@@ -8,12 +8,12 @@ use Rattle.std.specs.FinMap as fin_map
 use Rattle.hse_rows.specs.declared.change.Change.{Change}
 use Rattle.hse_rows.specs.declared.change.Change.TheVariants.{Put, Del, PDel}
 use Rattle.hse_rows.specs.declared.row.Row.{Row}
-use Rattle.hse_rows.specs.Change.{covers}
-use Rattle.hse_rows.specs.NormalForm.{hides_change}
-use Rattle.hse_rows.specs.Newest.{outdoes, once_each, newest}
-use Rattle.hse_rows.specs.Reach.{reaches, leaves}
-use Rattle.hse_rows.specs.Holding.{same_contents}
-use Rattle.hse_rows.specs.Meaning.{contents_of, value_said}
+use Rattle.hse_rows.specs.writes.Change.{covers}
+use Rattle.hse_rows.specs.writes.NormalForm.{hides_change}
+use Rattle.hse_rows.specs.rows.Newest.{outdoes, once_each, newest}
+use Rattle.hse_rows.specs.writes.Reach.{reaches, leaves}
+use Rattle.hse_rows.specs.laws.Holding.{same_contents}
+use Rattle.hse_rows.specs.rows.Meaning.{contents_of, value_said}
 use Rattle.row_laws.specs.Step.{AgreesWith, AreAgreed}
 use Rattle.sorted_lists.specs.laws.Lists.{each-weaker, each-filter}
 use Rattle.row_laws.proofs.MarkLemmas.{later, Where, top, top-append, top-sorted, top-kept, over-top, IsOver, MayPass, MayPassAll}

@@ -10,9 +10,9 @@ use Rattle.std.specs.List.Sorted.{IsStrictlySortedBy}
 use Rattle.hse_rows.specs.declared.change.Change.{Change}
 use Rattle.hse_rows.specs.declared.change.Change.TheVariants.{Put, Del, PDel}
 use Rattle.hse_rows.specs.declared.row.Row.{Row}
-use Rattle.hse_rows.specs.Newest.{row_cmp}
-use Rattle.hse_rows.specs.Meaning.{is_own}
-use Rattle.hse_rows.specs.RowSets.{key_row, is_before, place_of}
+use Rattle.hse_rows.specs.rows.Newest.{row_cmp}
+use Rattle.hse_rows.specs.rows.Meaning.{is_own}
+use Rattle.hse_rows.specs.rows.RowSets.{key_row, is_before, place_of}
 use Rattle.row_laws.specs.Next.{is_from, is_row_from}
 use Rattle.sorted_lists.specs.laws.Lists.{each-weaker}
 use Rattle.sorted_lists.specs.laws.Orders.{turned}

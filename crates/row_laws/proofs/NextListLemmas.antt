@@ -7,13 +7,13 @@ use Rattle.std.specs.Cmp.Lexicographic.{slice_cmp, nat_list_cmp_total}
 use Rattle.std.specs.FinMap.{IsAntisymmetric, slice_cmp-IsAntisymmetric, nat_cmp-IsAntisymmetric}
 use Rattle.std.specs.List.{AllByRecursion, filter, find}
 use Rattle.hse_rows.specs.declared.row.Row.{Row}
-use Rattle.hse_rows.specs.Change.{target}
-use Rattle.hse_rows.specs.Newest.{newest}
-use Rattle.hse_rows.specs.Cursor.{forward, first_of}
+use Rattle.hse_rows.specs.writes.Change.{target}
+use Rattle.hse_rows.specs.rows.Newest.{newest}
+use Rattle.hse_rows.specs.script.Cursor.{forward, first_of}
 use Rattle.std.specs.FinMap as fin_map
-use Rattle.hse_rows.specs.Reach.{leaves}
+use Rattle.hse_rows.specs.writes.Reach.{leaves}
 use Rattle.row_laws.proofs.MeaningLemmas.{get-contents_of}
-use Rattle.hse_rows.specs.Meaning.{contents_of, own_at, covered_at, said, value_said}
+use Rattle.hse_rows.specs.rows.Meaning.{contents_of, own_at, covered_at, said, value_said}
 use Rattle.row_laws.specs.Merging.{is_key_row, key_rows, next_by, AreOncePerNumber}
 use Rattle.row_laws.specs.Next.{position_of, is_from, is_row_from, row_lasting, lasting_at, value_left, IsFirstRow}
 use Rattle.sorted_lists.specs.laws.Orders.{turned}

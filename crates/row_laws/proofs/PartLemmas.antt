@@ -5,8 +5,8 @@ use Rattle.std.proofs.lemmas.List.Folds.{list_any-append}
 use Rattle.std.specs.List.{list_any}
 use Rattle.std.specs.FinMap as fin_map
 use Rattle.hse_rows.specs.declared.row.Row.{Row}
-use Rattle.hse_rows.specs.Reach.{leaves}
-use Rattle.hse_rows.specs.Meaning.{contents_of, is_own, is_covering, newer, own_at, greater, covered_at, said, value_said}
+use Rattle.hse_rows.specs.writes.Reach.{leaves}
+use Rattle.hse_rows.specs.rows.Meaning.{contents_of, is_own, is_covering, newer, own_at, greater, covered_at, said, value_said}
 use Rattle.row_laws.specs.Parts.{RowPart, rows_on, rows_off, rows_in, IsBelow, StandsOnPath}
 use Rattle.row_laws.proofs.MeaningLemmas.{get-contents_of}
 use Rattle.row_laws.proofs.RowSetLemmas.{greater-assoc}

@@ -10,9 +10,9 @@ use Rattle.std.specs.Cmp.Lexicographic.{slice_cmp, nat_list_cmp_total}
 use Rattle.std.specs.FinMap.{IsAntisymmetric, slice_cmp-IsAntisymmetric, nat_cmp-IsAntisymmetric}
 use Rattle.std.specs.List.{filter, list_any}
 use Rattle.hse_rows.specs.declared.row.Row.{Row}
-use Rattle.hse_rows.specs.Change.{target}
-use Rattle.hse_rows.specs.Reach.{reaches}
-use Rattle.hse_rows.specs.Meaning.{is_own, own_at, covered_at}
+use Rattle.hse_rows.specs.writes.Change.{target}
+use Rattle.hse_rows.specs.writes.Reach.{reaches}
+use Rattle.hse_rows.specs.rows.Meaning.{is_own, own_at, covered_at}
 use Rattle.row_laws.specs.Merging.{is_key_row}
 use Rattle.row_laws.specs.Next.{is_from, is_row_from, row_lasting, lasting_at, IsFirstRow, IsPast}
 use Rattle.sorted_lists.specs.laws.Orders.{turned}

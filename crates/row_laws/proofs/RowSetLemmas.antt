@@ -10,9 +10,9 @@ use Rattle.std.specs.List.Sorted.{IsStrictlySortedBy, IsBinarySearchResult}
 use Rattle.hse_rows.specs.declared.change.Change.{Change}
 use Rattle.hse_rows.specs.declared.change.Change.TheVariants.{Put, Del, PDel}
 use Rattle.hse_rows.specs.declared.row.Row.{Row}
-use Rattle.hse_rows.specs.Newest.{row_cmp}
-use Rattle.hse_rows.specs.Meaning.{is_own, newer, own_at, greater}
-use Rattle.hse_rows.specs.RowSets.{key_row, is_before, place_of}
+use Rattle.hse_rows.specs.rows.Newest.{row_cmp}
+use Rattle.hse_rows.specs.rows.Meaning.{is_own, newer, own_at, greater}
+use Rattle.hse_rows.specs.rows.RowSets.{key_row, is_before, place_of}
 use Rattle.sorted_lists.specs.Places.{IsPlace}
 use Rattle.sorted_lists.specs.laws.Lists.{each-weaker, each-at}
 use Rattle.sorted_lists.specs.laws.Orders.{turned, searchable, apart-missing, place-later, place-past}

@@ -5,8 +5,8 @@ use Rattle.std.specs.List.{AllByRecursion, list_any}
 use Rattle.std.proofs.lemmas.List.Folds.{list_any-append}
 use Rattle.std.specs.FinMap as fin_map
 use Rattle.hse_rows.specs.declared.row.Row.{Row}
-use Rattle.hse_rows.specs.Reach.{reaches}
-use Rattle.hse_rows.specs.Meaning.{contents_of, is_own, newer, own_at, covered_at, said, value_said}
+use Rattle.hse_rows.specs.writes.Reach.{reaches}
+use Rattle.hse_rows.specs.rows.Meaning.{contents_of, is_own, newer, own_at, covered_at, said, value_said}
 use Rattle.row_laws.specs.Sources.{all_rows, IsAbove, Falls, AreLayersOver, or_else, first_said}
 use Rattle.sorted_lists.specs.laws.Lists.{each-weaker}
 use Rattle.row_laws.proofs.MarkLemmas.{later, later-first, Where, top, top-append, where-top}

@@ -9,13 +9,13 @@ use Rattle.std.specs.FinMap as fin_map
 use Rattle.hse_rows.specs.declared.change.Change.{Change}
 use Rattle.hse_rows.specs.declared.change.Change.TheVariants.{Put, Del, PDel}
 use Rattle.hse_rows.specs.declared.row.Row.{Row}
-use Rattle.hse_rows.specs.Change.{target, covers}
-use Rattle.hse_rows.specs.NormalForm.{rank, same}
-use Rattle.hse_rows.specs.Newest.{row_cmp}
-use Rattle.hse_rows.specs.Reach.{reaches, leaves}
-use Rattle.hse_rows.specs.State.{changed}
-use Rattle.hse_rows.specs.Holding.{get-changed, same_contents}
-use Rattle.hse_rows.specs.Meaning.{apply_cmp, contents_of, with_row, value_said}
+use Rattle.hse_rows.specs.writes.Change.{target, covers}
+use Rattle.hse_rows.specs.writes.NormalForm.{rank, same}
+use Rattle.hse_rows.specs.rows.Newest.{row_cmp}
+use Rattle.hse_rows.specs.writes.Reach.{reaches, leaves}
+use Rattle.hse_rows.specs.states.State.{changed}
+use Rattle.hse_rows.specs.laws.Holding.{get-changed, same_contents}
+use Rattle.hse_rows.specs.rows.Meaning.{apply_cmp, contents_of, with_row, value_said}
 use Rattle.row_laws.specs.Step.{AppliesLast}
 use Rattle.sorted_lists.specs.laws.Lists.{each-weaker, each-filter}
 use Rattle.row_laws.proofs.MarkLemmas.{later, later-none, later-second, Swap, Where, top, where-top, top-filter, top-put}

@@ -7,8 +7,8 @@ use Rattle.std.specs.List.{AllByRecursion, filter, list_any}
 use Rattle.hse_rows.specs.declared.change.Change.{Change}
 use Rattle.hse_rows.specs.declared.change.Change.TheVariants.{Put, Del, PDel}
 use Rattle.hse_rows.specs.declared.row.Row.{Row}
-use Rattle.hse_rows.specs.NormalForm.{rank, hides_change}
-use Rattle.hse_rows.specs.Newest.{is_twin, once_each}
+use Rattle.hse_rows.specs.writes.NormalForm.{rank, hides_change}
+use Rattle.hse_rows.specs.rows.Newest.{is_twin, once_each}
 use Rattle.row_laws.specs.Merging.{is_key_row, AreTwoKeys, AreOncePerNumber}
 use Rattle.row_laws.specs.Step.{AgreesWith, AreAgreed}
 use Rattle.row_laws.proofs.MarkLemmas.{Marked, later, later-assoc, top}

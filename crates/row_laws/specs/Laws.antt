@@ -2,14 +2,14 @@
 use Rattle.std.specs.Prelude.{◌≡◌, ℕ, Bool, List, ◌++◌, Option}
 use Rattle.std.specs.FinMap as fin_map
 use Rattle.hse_rows.specs.declared.row.Row.{Row}
-use Rattle.hse_rows.specs.Meaning.{contents_of, contents_after_rows, with_row, own_at, covered_at, said, value_said}
-use Rattle.hse_rows.specs.State.{changed}
+use Rattle.hse_rows.specs.rows.Meaning.{contents_of, contents_after_rows, with_row, own_at, covered_at, said, value_said}
+use Rattle.hse_rows.specs.states.State.{changed}
 use Rattle.std.specs.List.Sorted.{IsStrictlySortedBy}
 use Rattle.row_laws.specs.Parts.{RowPart, rows_on, rows_in, StandsOnPath}
 use Rattle.row_laws.specs.Merging.{key_rows, pairs_of, next_by, AreOncePerNumber}
-use Rattle.hse_rows.specs.Cursor.{forward}
+use Rattle.hse_rows.specs.script.Cursor.{forward}
 use Rattle.row_laws.specs.Next.{position_of, is_from, lasting_at, value_left, IsFirstRow, OwnFalls}
-use Rattle.hse_rows.specs.Newest.{newest, row_cmp}
+use Rattle.hse_rows.specs.rows.Newest.{newest, row_cmp}
 use Rattle.row_laws.specs.Step.{AppliesLast, AreAgreed, IsInOrder}
 use Rattle.row_laws.specs.Sources.{all_rows, Falls, AreLayersOver, first_said}
 

@@ -4,10 +4,10 @@ use Rattle.std.specs.List.{AllByRecursion, filter}
 use Rattle.hse_rows.specs.declared.change.Change.{Change}
 use Rattle.hse_rows.specs.declared.change.Change.TheVariants.{Put, Del, PDel}
 use Rattle.hse_rows.specs.declared.row.Row.{Row}
-use Rattle.hse_rows.specs.Change.{target}
-use Rattle.hse_rows.specs.NormalForm.{rank}
-use Rattle.hse_rows.specs.Newest.{newest}
-use Rattle.hse_rows.specs.Cursor.{Pair, Direction, Position, directed, is_reached, first_of}
+use Rattle.hse_rows.specs.writes.Change.{target}
+use Rattle.hse_rows.specs.writes.NormalForm.{rank}
+use Rattle.hse_rows.specs.rows.Newest.{newest}
+use Rattle.hse_rows.specs.script.Cursor.{Pair, Direction, Position, directed, is_reached, first_of}
 
 abbrev pub is_key_row : Row → Bool
 is_key_row row = not (rank row.change == 0)

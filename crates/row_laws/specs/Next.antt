@@ -5,10 +5,10 @@ use Rattle.std.specs.declared.cmp.Ordering.TheVariants.{Less}
 use Rattle.std.specs.Ordering.{nat_cmp, is_lt}
 use Rattle.std.specs.Cmp.Lexicographic.{slice_cmp}
 use Rattle.hse_rows.specs.declared.row.Row.{Row}
-use Rattle.hse_rows.specs.Change.{target}
-use Rattle.hse_rows.specs.Reach.{leaves}
-use Rattle.hse_rows.specs.Cursor.{Position, at_key, past_key, forward, is_reached}
-use Rattle.hse_rows.specs.Meaning.{own_at, covered_at, greater}
+use Rattle.hse_rows.specs.writes.Change.{target}
+use Rattle.hse_rows.specs.writes.Reach.{leaves}
+use Rattle.hse_rows.specs.script.Cursor.{Position, at_key, past_key, forward, is_reached}
+use Rattle.hse_rows.specs.rows.Meaning.{own_at, covered_at, greater}
 use Rattle.row_laws.specs.Sources.{all_rows}
 use Rattle.row_laws.specs.Merging.{is_key_row}
 

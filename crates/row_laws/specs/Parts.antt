@@ -2,7 +2,7 @@
 use Rattle.std.specs.Prelude.{◌≡◌, ◌<◌, ℕ, Bool, false, cond, List, [], ◌∷◌, ◌++◌, Option, Some, None}
 use Rattle.std.specs.List.{list_any}
 use Rattle.hse_rows.specs.declared.row.Row.{Row}
-use Rattle.hse_rows.specs.Meaning.{is_own, own_at, covered_at}
+use Rattle.hse_rows.specs.rows.Meaning.{is_own, own_at, covered_at}
 
 -- rows, and whether they stand on the path
 abbrev pub RowPart : Type 0

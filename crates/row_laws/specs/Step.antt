@@ -3,10 +3,10 @@ use Rattle.std.specs.Prelude.{◌≡◌, false, List, [], ◌∷◌}
 use Rattle.std.specs.List.{AllByRecursion}
 use Rattle.std.specs.Ordering.{is_lt}
 use Rattle.hse_rows.specs.declared.row.Row.{Row}
-use Rattle.hse_rows.specs.Change.{target}
-use Rattle.hse_rows.specs.NormalForm.{rank}
-use Rattle.hse_rows.specs.Reach.{leaves}
-use Rattle.hse_rows.specs.Meaning.{apply_cmp}
+use Rattle.hse_rows.specs.writes.Change.{target}
+use Rattle.hse_rows.specs.writes.NormalForm.{rank}
+use Rattle.hse_rows.specs.writes.Reach.{leaves}
+use Rattle.hse_rows.specs.rows.Meaning.{apply_cmp}
 
 -- none of the rows applies after this one
 abbrev pub AppliesLast : List Row → Row → Type 0

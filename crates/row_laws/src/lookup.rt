@@ -3,10 +3,10 @@ ghost use Rattle.std.specs.Prelude.{◌≡◌, List, map, Some, None};
 ghost use Rattle.std.specs.FinMap as fin_map;
 ghost use Rattle.std.specs.Option.{option_map};
 ghost use Rattle.hse_rows.specs.declared.row.Row.{Row as a_row};
-ghost use Rattle.hse_rows.specs.Meaning.{contents_of, own_at, covered_at, said, value_said};
+ghost use Rattle.hse_rows.specs.rows.Meaning.{contents_of, own_at, covered_at, said, value_said};
 ghost use Rattle.row_laws.specs.Sources.{all_rows, Falls, first_said};
 ghost use Rattle.row_laws.specs.Lookup.{word_of};
-ghost use Rattle.hse_rows.specs.RowSets.{row_of};
+ghost use Rattle.hse_rows.specs.rows.RowSets.{row_of};
 
 use hse_rows::{ChangeRef, RowRef, RowSet};
 

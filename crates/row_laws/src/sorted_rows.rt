@@ -1,9 +1,9 @@
 //! Rows in a sorted vector.
 ghost use Rattle.std.specs.Prelude.{◌≡◌, length, Some};
 ghost use Rattle.std.specs.List.Sorted.{IsBinarySearchResult, IsSearchInRange, IsStrictlySortedBy, IsPartitionPoint};
-ghost use Rattle.hse_rows.specs.Newest.{row_cmp};
-ghost use Rattle.hse_rows.specs.Meaning.{own_at, covered_at, greater as greatest_of};
-ghost use Rattle.hse_rows.specs.RowSets.{AreRows, row_of, row_by, place_of, key_row};
+ghost use Rattle.hse_rows.specs.rows.Newest.{row_cmp};
+ghost use Rattle.hse_rows.specs.rows.Meaning.{own_at, covered_at, greater as greatest_of};
+ghost use Rattle.hse_rows.specs.rows.RowSets.{AreRows, row_of, row_by, place_of, key_row};
 
 use hse_rows::{Change, Row, RowRef, RowSet};
 use std::cmp::Ordering;
@@ -18,7 +18,7 @@ pub struct SortedRows {
 impl Model for SortedRows {
     ghost use Rattle.std.specs.Prelude.{List};
     ghost use Rattle.hse_rows.specs.declared.row.Row.{Row};
-    ghost use Rattle.hse_rows.specs.RowSets.{AreRows};
+    ghost use Rattle.hse_rows.specs.rows.RowSets.{AreRows};
 
     ghost Value = { List Row };
 

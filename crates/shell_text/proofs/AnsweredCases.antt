@@ -2,9 +2,9 @@
 use Rattle.std.proofs.Common.{◌≡◌, ℕ, List, [], ◌∷◌, ◌++◌, codes, decimal, refl}
 use Rattle.hex.specs.Hex.{encode_lower}
 use Rattle.hse_rows.specs.declared.store.Mode.TheVariants.{Plain, Tx}
-use Rattle.hse_rows.specs.Turn.{syncing, freezing, installing, creating, dropping, is_home, is_taken, is_run}
-use Rattle.hse_rows.specs.Replies as answer
-use Rattle.hse_rows.specs.Replies.{Answer, by_commit, by_abort}
+use Rattle.hse_rows.specs.machine.Turn.{syncing, freezing, installing, creating, dropping, is_home, is_taken, is_run}
+use Rattle.hse_rows.specs.machine.Replies as answer
+use Rattle.hse_rows.specs.machine.Replies.{Answer, by_commit, by_abort}
 use Rattle.shell_text.specs.declared.reply.RegionText.TheVariants as region
 use Rattle.shell_text.specs.declared.reply.TurnText.TheVariants as turn
 use Rattle.shell_text.specs.declared.reply.PhaseText.TheVariants as phase

@@ -2,9 +2,9 @@
 use Rattle.std.proofs.Common.{◌≡◌, ℕ, true, false, List, [], codes, Some, None, Ok, Err, refl}
 use Rattle.hse_rows.specs.declared.change.Change.TheVariants as change
 use Rattle.hse_rows.specs.declared.store.Mode.TheVariants.{Plain, Tx}
-use Rattle.hse_rows.specs.Cursor.{forward, backward}
-use Rattle.hse_rows.specs.Turn as wish
-use Rattle.hse_rows.specs.ScriptLines as script
+use Rattle.hse_rows.specs.script.Cursor.{forward, backward}
+use Rattle.hse_rows.specs.machine.Turn as wish
+use Rattle.hse_rows.specs.script.ScriptLines as script
 use Rattle.shell_text.specs.declared.line.Actor.TheVariants.{At, Name}
 use Rattle.shell_text.specs.declared.line.TakeText.TheVariants as taken
 use Rattle.shell_text.specs.declared.line.Line.TheVariants as line

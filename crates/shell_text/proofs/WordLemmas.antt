@@ -6,7 +6,7 @@ use Rattle.std.proofs.lemmas.Bool.{false≢true}
 use Rattle.std.proofs.lemmas.Fmt.{decimal_injective}
 use Rattle.hex.specs.Hex.{decode_of}
 use denote.Ref.{Bor}
-use Rattle.hse_rows.specs.Names.{IsName, is_name_byte}
+use Rattle.hse_rows.specs.writes.Names.{IsName, is_name_byte}
 use Rattle.hse_rows.specs.declared.store.Mode.{Mode}
 use Rattle.hse_rows.specs.declared.store.Mode.TheVariants.{Plain, Tx}
 use Rattle.shell_text.specs.declared.line.Actor.{Actor}

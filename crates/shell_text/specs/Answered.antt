@@ -1,8 +1,8 @@
 -- Which answer of the script machine a reply tells. The answers about jobs and trees have no text yet.
 use Rattle.std.specs.Prelude.{ℕ, List, map}
-use Rattle.hse_rows.specs.Turn.{TurnKind, syncing, freezing, installing, creating, dropping, TurnPhase, is_home, is_taken, is_run}
-use Rattle.hse_rows.specs.Replies.{Part, Ending, by_commit, by_abort, Listed, Figures, Answer}
-use Rattle.hse_rows.specs.Replies as answer
+use Rattle.hse_rows.specs.machine.Turn.{TurnKind, syncing, freezing, installing, creating, dropping, TurnPhase, is_home, is_taken, is_run}
+use Rattle.hse_rows.specs.machine.Replies.{Part, Ending, by_commit, by_abort, Listed, Figures, Answer}
+use Rattle.hse_rows.specs.machine.Replies as answer
 use Rattle.shell_text.specs.declared.reply.RegionText.{RegionText}
 use Rattle.shell_text.specs.declared.reply.RegionText.TheVariants as region
 use Rattle.shell_text.specs.declared.reply.TurnText.{TurnText}

@@ -1,10 +1,10 @@
 -- Which line of the script machine the text of a line asks for.
 use Rattle.std.specs.Prelude.{Bool, true, false, Option, Some, None, Result, Ok, Err}
 use Rattle.hse_rows.specs.declared.change.Change.TheVariants as change
-use Rattle.hse_rows.specs.Cursor.{Direction, forward, backward}
-use Rattle.hse_rows.specs.Turn.{TurnWish}
-use Rattle.hse_rows.specs.Turn as wish
-use Rattle.hse_rows.specs.ScriptLines as script
+use Rattle.hse_rows.specs.script.Cursor.{Direction, forward, backward}
+use Rattle.hse_rows.specs.machine.Turn.{TurnWish}
+use Rattle.hse_rows.specs.machine.Turn as wish
+use Rattle.hse_rows.specs.script.ScriptLines as script
 use Rattle.shell_text.specs.declared.line.Actor.{Actor}
 use Rattle.shell_text.specs.declared.line.Actor.TheVariants.{At, Name}
 use Rattle.shell_text.specs.declared.line.TakeText.{TakeText}

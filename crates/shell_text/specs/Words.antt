@@ -4,7 +4,7 @@ use Rattle.std.specs.List.{join_with_byte, list_all, starts_with}
 use Rattle.hex.specs.Hex.{decode_of}
 use Rattle.shell_text.specs.declared.line.Actor.{Actor}
 use Rattle.shell_text.specs.declared.line.Actor.TheVariants.{At, Name}
-use Rattle.hse_rows.specs.Names.{IsName}
+use Rattle.hse_rows.specs.writes.Names.{IsName}
 use Rattle.hse_rows.specs.declared.store.Mode.{Mode}
 use Rattle.hse_rows.specs.declared.store.Mode.TheVariants.{Plain, Tx}
 

@@ -4,7 +4,7 @@ use Rattle.std.specs.List.{AllWithin, filter}
 use Rattle.std.specs.declared.cmp.Ordering.{Ordering}
 use Rattle.std.specs.declared.cmp.Ordering.TheVariants.{Less, Greater}
 use Rattle.std.specs.Ordering.{eq_by_cmp}
-use Rattle.hse_rows.specs.Sorted.{placed}
+use Rattle.hse_rows.specs.writes.Sorted.{placed}
 
 module _ {X : Type 0} (R : X → X → Ordering) where
   -- an element that does not tie with x

@@ -8,9 +8,9 @@ use Rattle.hse_fields.specs.LogText.{change_text}
 use Rattle.hse_fields.specs.LogReading.{more_changes_of}
 use Rattle.hse_fields.specs.laws.AllChanges.{more_changes_take}
 use Rattle.hse_fields.specs.laws.Fields.{IsBytes}
-use Rattle.hse_rows.specs.NormalForm.{write_cmp}
+use Rattle.hse_rows.specs.writes.NormalForm.{write_cmp}
 use Rattle.wal.proofs.OrderLemmas.{rising}
-use Rattle.hse_rows.specs.Charge.{change_bytes, writes_bytes, charge_of}
+use Rattle.hse_rows.specs.writes.Charge.{change_bytes, writes_bytes, charge_of}
 use Rattle.hse_rows.specs.declared.change.Change.{Change}
 use Rattle.hse_rows.specs.declared.change.Change.TheVariants.{Put, Del, PDel}
 use Rattle.hse_rows.specs.declared.write.Write.{Write}

@@ -9,8 +9,8 @@ use Rattle.std.specs.declared.cmp.Ordering.TheVariants.{Less, Equal, Greater}
 use Rattle.std.specs.Cmp.Lexicographic.{nat_list_cmp_total}
 use Rattle.hse_fields.specs.LogOrder.{change_order}
 use Rattle.hse_fields.specs.LogForm.{AreInOrder}
-use Rattle.hse_rows.specs.Change.{target}
-use Rattle.hse_rows.specs.NormalForm.{rank, write_cmp}
+use Rattle.hse_rows.specs.writes.Change.{target}
+use Rattle.hse_rows.specs.writes.NormalForm.{rank, write_cmp}
 use Rattle.hse_rows.specs.declared.change.Change.{Change}
 use Rattle.hse_rows.specs.declared.change.Change.TheVariants.{Put, Del, PDel}
 use Rattle.hse_rows.specs.declared.store.StoreId.{StoreId}

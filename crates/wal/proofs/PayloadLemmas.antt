@@ -9,8 +9,8 @@ use Rattle.std.proofs.lemmas.List.{length-map}
 use Rattle.std.proofs.lemmas.List.Elements.{recursion_from_All}
 use Rattle.hse_fields.specs.LogOrder.{change_order}
 use Rattle.hse_fields.specs.LogForm.{AreInOrder, IsChange, IsEntry, ArePayload}
-use Rattle.hse_rows.specs.Change.{FitsLimits}
-use Rattle.hse_rows.specs.NormalForm.{write_cmp}
+use Rattle.hse_rows.specs.writes.Change.{FitsLimits}
+use Rattle.hse_rows.specs.writes.NormalForm.{write_cmp}
 use Rattle.hse_rows.specs.declared.change.Change.{Change}
 use Rattle.hse_rows.specs.declared.change.Change.TheVariants.{Put, Del, PDel}
 use Rattle.hse_rows.specs.declared.store.StoreId.{StoreId}

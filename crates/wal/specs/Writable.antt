@@ -2,8 +2,8 @@
 use Rattle.std.specs.Prelude.{ℕ, ◌^◌, ◌<◌, ◌≤◌, length}
 use Rattle.std.specs.List.{All}
 use Rattle.std.specs.List.Sorted.{IsStrictlySortedBy}
-use Rattle.hse_rows.specs.Change.{FitsLimits}
-use Rattle.hse_rows.specs.NormalForm.{write_cmp}
+use Rattle.hse_rows.specs.writes.Change.{FitsLimits}
+use Rattle.hse_rows.specs.writes.NormalForm.{write_cmp}
 use Rattle.hse_rows.specs.declared.write.Write.{Write}
 use Rattle.wal.specs.Logged.{logged}
 use Rattle.wal.specs.declared.commit.Commit.{Commit}

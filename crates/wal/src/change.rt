@@ -2,7 +2,7 @@
 ghost use Rattle.std.specs.Prelude.{◌≡◌, ◌≤◌, ℕ, [], length, IfOk};
 ghost use Rattle.hse_fields.specs.LogForm.{longest_name, ValueFits};
 ghost use Rattle.hse_fields.specs.LogReading.{change, kind_of, name_of, change_of};
-ghost use Rattle.hse_rows.specs.Lengths.{IsKeyLength, IsPrefixLength};
+ghost use Rattle.hse_rows.specs.writes.Lengths.{IsKeyLength, IsPrefixLength};
 ghost use Rattle.wal.specs.Given.{Gives, kind_as};
 ghost use Rattle.wal.specs.Live.{prefix_fits};
 ghost use Rattle.wal.specs.Logged.{last_of, logged, logged_change};

@@ -3,7 +3,7 @@ ghost use Rattle.std.specs.Prelude.{◌≡◌, ◌+◌, ◌≤◌, ◌<◌, ◌^
 ghost use Rattle.std.specs.List.{All};
 ghost use Rattle.hse_fields.specs.LogReading.{change};
 ghost use Rattle.hse_fields.specs.LogText.{put, change_text, entry_text, head_text, payload_text};
-ghost use Rattle.hse_rows.specs.Change.{change_of, FitsLimits};
+ghost use Rattle.hse_rows.specs.writes.Change.{change_of, FitsLimits};
 ghost use Rattle.wal.specs.Given.{kind_as};
 ghost use Rattle.wal.specs.Logged.{logged_change, entry_of, entries_of};
 

@@ -2,7 +2,7 @@
 ghost use Rattle.std.specs.Prelude.{◌≡◌, []};
 ghost use Rattle.hse_fields.specs.LogOrder.{rank, kind_may_follow, store_may_follow, may_follow};
 ghost use Rattle.hse_fields.specs.LogReading.{change, name_may_follow};
-ghost use Rattle.hse_rows.specs.Change.{target};
+ghost use Rattle.hse_rows.specs.writes.Change.{target};
 ghost use Rattle.wal.specs.Given.{kind_as};
 ghost use Rattle.wal.specs.Logged.{last_of};
 ghost use Rattle.wal.specs.Kinds.{kind_of};

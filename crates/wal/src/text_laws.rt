@@ -4,7 +4,7 @@ ghost use Rattle.std.specs.List.{All};
 ghost use Rattle.hse_fields.specs.LogForm.{ArePayload};
 ghost use Rattle.hse_fields.specs.LogReading.{payload_of, Follow, PrefixesFit};
 ghost use Rattle.hse_fields.specs.LogText.{Entry, entry_text, payload_text};
-ghost use Rattle.hse_rows.specs.Charge.{charge_of};
+ghost use Rattle.hse_rows.specs.writes.Charge.{charge_of};
 ghost use Rattle.wal.specs.Charges.{charges};
 ghost use Rattle.wal.specs.Live.{prefix_fits};
 ghost use Rattle.wal.specs.Logged.{entry_of, entries_of};

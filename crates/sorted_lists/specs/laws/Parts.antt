@@ -7,7 +7,7 @@ use Rattle.std.specs.Ordering.{is_lt, is_eq, is_gt, ordering_reverse}
 use Rattle.std.specs.List.{AllByRecursion, filter, find}
 use Rattle.std.specs.List.Sorted.{IsStrictlySortedBy}
 use Rattle.std.specs.Cmp.{IsTotalOrder, alike_right}
-use Rattle.hse_rows.specs.Sorted.{placed}
+use Rattle.hse_rows.specs.writes.Sorted.{placed}
 use Rattle.sorted_lists.specs.Places.{is_apart, without, with_one, IsPlace}
 use Rattle.sorted_lists.specs.laws.Lists.{each-weaker, each-append, each-at, filter-all, filter-none}
 use Rattle.sorted_lists.specs.laws.Orders.{turned, below-below, placed-front, place-later, place-past}

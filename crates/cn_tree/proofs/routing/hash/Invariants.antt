@@ -1,7 +1,7 @@
 use Rattle.std.proofs.Common.{◌≡◌, ◌+◌, ◌*◌, drop}
 use Rattle.std.specs.Prelude.{◌%◌, ◌^◌}
 use Rattle.std.specs.List.{fold}
-use Rattle.hse_rows.specs.Routing.{hash_of}
+use Rattle.hse_rows.specs.rows.Routing.{hash_of}
 use Rattle.cn_tree.proofs.routing.hash.Given as goal
 
 -- the rest of the bytes lead to the number of all

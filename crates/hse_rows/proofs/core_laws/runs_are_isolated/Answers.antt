@@ -1,4 +1,4 @@
-use Rattle.hse_rows.specs.Replies.{canceled_held, canceled_since}
+use Rattle.hse_rows.specs.machine.Replies.{canceled_held, canceled_since}
 use Rattle.hse_rows.proofs.CoreGoes.{step_goes, runs_are_isolated, commit_not_canceled}
 use Rattle.hse_rows.proofs.core_laws.runs_are_isolated.Goals as goal
 

@@ -1,4 +1,4 @@
-use Rattle.hse_rows.specs.Folding.{folded-number, fold-last, fold-stays}
+use Rattle.hse_rows.specs.laws.Folding.{folded-number, fold-last, fold-stays}
 use Rattle.hse_rows.proofs.laws.snapshots_stay.Goals as goal
 
 pub returns-clause-last : goal.returns-clause-last

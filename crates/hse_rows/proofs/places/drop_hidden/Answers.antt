@@ -1,6 +1,6 @@
 use Rattle.std.proofs.Common.{rules}
 use Rattle.std.proofs.lemmas.Fn.{filter_same}
-use Rattle.hse_rows.specs.NormalForm.{stays}
+use Rattle.hse_rows.specs.writes.NormalForm.{stays}
 use Rattle.hse_rows.proofs.places.drop_hidden.Goals as goal
 
 pub returns-clause-items : goal.returns-clause-items

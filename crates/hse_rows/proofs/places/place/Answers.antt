@@ -1,6 +1,6 @@
 use Rattle.std.proofs.Common.{rules}
 use Rattle.std.proofs.lemmas.Fn.{always_returns_same}
-use Rattle.hse_rows.specs.NormalForm.{write_cmp}
+use Rattle.hse_rows.specs.writes.NormalForm.{write_cmp}
 use Rattle.hse_rows.proofs.places.place.Goals as goal
 
 pub returns-clause-position : goal.returns-clause-position

@@ -1,5 +1,5 @@
 use Rattle.std.proofs.Common.{ap, ◌∙◌}
-use Rattle.hse_rows.specs.NormalForm.{replaced}
+use Rattle.hse_rows.specs.writes.NormalForm.{replaced}
 use Rattle.hse_rows.proofs.WriteLemmas.{is_of_key, replaced-key, replaced-dropped, rising-stays}
 use Rattle.hse_rows.proofs.places.put.Goals as goal
 use Rattle.hse_rows.proofs.places.put.Goals.{in-PDel, in_default}

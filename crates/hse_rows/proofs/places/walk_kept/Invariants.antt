@@ -1,7 +1,7 @@
 use Rattle.std.proofs.Common.{◌≡◌, take}
 use Rattle.std.specs.List.{filter}
-use Rattle.hse_rows.specs.NormalForm.{stays}
-use Rattle.hse_rows.specs.Charge.{writes_bytes}
+use Rattle.hse_rows.specs.writes.NormalForm.{stays}
+use Rattle.hse_rows.specs.writes.Charge.{writes_bytes}
 use Rattle.hse_rows.proofs.places.walk_kept.Given as goal
 
 abbrev pub invariant-loop-write : goal.invariant-loop-write

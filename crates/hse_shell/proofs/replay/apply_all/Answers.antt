@@ -1,6 +1,6 @@
 use Rattle.std.proofs.Common.{◌+◌, List, drop, refl, sym, ap, ◌∙◌, arith}
 use Rattle.std.proofs.lemmas.List.{at_drop_all}
-use Rattle.hse_rows.specs.Change.{change_of, write_of}
+use Rattle.hse_rows.specs.writes.Change.{change_of, write_of}
 use Rattle.hse_rows.specs.declared.write.Write.{Write}
 use Rattle.wal.specs.Logged.{logged_all}
 use Rattle.hse_shell.specs.Change.{Contents}

@@ -1,6 +1,6 @@
 use Rattle.std.proofs.Common.{drop, map}
 use Rattle.std.specs.List.{AllByRecursion}
-use Rattle.hse_rows.specs.RowSets.{AreRows}
+use Rattle.hse_rows.specs.rows.RowSets.{AreRows}
 use Rattle.merge.proofs.covers.are_known.Given as goal
 
 -- where the rest are known, all are

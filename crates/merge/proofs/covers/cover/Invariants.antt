@@ -1,5 +1,5 @@
 use Rattle.std.proofs.Common.{◌≡◌, drop, map}
-use Rattle.hse_rows.specs.Meaning.{greater}
+use Rattle.hse_rows.specs.rows.Meaning.{greater}
 use Rattle.row_laws.specs.Next.{covered_in}
 use Rattle.merge.proofs.covers.cover.Given as goal
 

@@ -1,8 +1,8 @@
 use Rattle.std.proofs.Common.{◌==◌, not, ap}
 use Rattle.hse_rows.specs.declared.change.ChangeRef.{ChangeRef}
-use Rattle.hse_rows.specs.Change.{change_of}
-use Rattle.hse_rows.specs.NormalForm.{rank}
-use Rattle.hse_rows.specs.RowSets.{row_of}
+use Rattle.hse_rows.specs.writes.Change.{change_of}
+use Rattle.hse_rows.specs.writes.NormalForm.{rank}
+use Rattle.hse_rows.specs.rows.RowSets.{row_of}
 use Rattle.merge.proofs.TurnLemmas.{first-keyed}
 use Rattle.merge.proofs.covers.cover_in.Goals as goal
 

@@ -1,6 +1,6 @@
 use Rattle.std.proofs.Common.{arith}
 use Rattle.std.proofs.lemmas.Option.{slice_get_within}
-use Rattle.hse_rows.specs.RowSets.{row_of}
+use Rattle.hse_rows.specs.rows.RowSets.{row_of}
 use Rattle.merge.proofs.PastLemmas.{row-source, row-index, row-made}
 use Rattle.merge.proofs.merged.row_in.Goals as goal
 

@@ -1,8 +1,8 @@
 use Rattle.std.proofs.Common.{◌≡◌, ℕ, ◌+◌, ◌==◌, suc, List, drop, not, sym, ap, ◌∙◌, arith}
 use Rattle.hse_rows.specs.declared.change.ChangeRef.{ChangeRef}
-use Rattle.hse_rows.specs.Change.{change_of}
-use Rattle.hse_rows.specs.NormalForm.{rank}
-use Rattle.hse_rows.specs.RowSets.{row_of}
+use Rattle.hse_rows.specs.writes.Change.{change_of}
+use Rattle.hse_rows.specs.writes.NormalForm.{rank}
+use Rattle.hse_rows.specs.rows.RowSets.{row_of}
 use Rattle.prefix_delete.specs.declared.entry.Entry.{Entry}
 use Rattle.merge.specs.Deletes.{with_change, with_deletes}
 use Rattle.merge.proofs.DeleteLemmas.{keys-rest, delete-more}

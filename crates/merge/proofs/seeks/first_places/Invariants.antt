@@ -1,5 +1,5 @@
 use Rattle.std.proofs.Common.{◌≡◌, ◌++◌, drop, map}
-use Rattle.hse_rows.specs.Cursor.{forward, front}
+use Rattle.hse_rows.specs.script.Cursor.{forward, front}
 use Rattle.merge.specs.Places.{places_by}
 use Rattle.merge.proofs.seeks.first_places.Given as goal
 

@@ -1,5 +1,5 @@
 use Rattle.std.proofs.Common.{sym, ap, ◌∙◌}
-use Rattle.hse_rows.specs.Cursor.{forward}
+use Rattle.hse_rows.specs.script.Cursor.{forward}
 use Rattle.row_laws.specs.Next.{position_of}
 use Rattle.merge.specs.Places.{direction_of, place_by, passed}
 use Rattle.merge.proofs.SeekLemmas.{place-past, place-upto}

@@ -3,7 +3,7 @@ use Rattle.std.specs.Prelude.{IfSome}
 use Rattle.std.specs.Option.{option_map}
 use Rattle.hse_rows.specs.declared.row.Row.{Row}
 use Rattle.hse_rows.specs.declared.row.RowRef.{RowRef}
-use Rattle.hse_rows.specs.RowSets.{row_of, row_by}
+use Rattle.hse_rows.specs.rows.RowSets.{row_of, row_by}
 use Rattle.merge.specs.Places.{direction_of, sooner, soonest, head_from, IsHead}
 use Rattle.merge.proofs.TurnLemmas.{soonest-more, head-at, if-more}
 use Rattle.merge.proofs.steps.soonest_of.Goals as goal

@@ -1,7 +1,7 @@
 use Rattle.std.proofs.Common.{◌≡◌, drop, map, None}
 use Rattle.std.specs.Prelude.{IfSome}
 use Rattle.std.specs.Option.{option_map}
-use Rattle.hse_rows.specs.RowSets.{row_of, row_by}
+use Rattle.hse_rows.specs.rows.RowSets.{row_of, row_by}
 use Rattle.merge.specs.Places.{direction_of, soonest, IsHead}
 use Rattle.merge.proofs.steps.soonest_of.Given as goal
 

@@ -1,7 +1,7 @@
 use Rattle.std.proofs.Common.{◌≡◌, ℕ, ◌<◌, List, map, length, cond, Some, None, sym, ap, subst, ◌∙◌, arith}
-use Rattle.hse_rows.specs.Change.{target}
-use Rattle.hse_rows.specs.RowSets.{row_of}
-use Rattle.hse_rows.specs.Cursor.{past_key}
+use Rattle.hse_rows.specs.writes.Change.{target}
+use Rattle.hse_rows.specs.rows.RowSets.{row_of}
+use Rattle.hse_rows.specs.script.Cursor.{past_key}
 use Rattle.row_laws.specs.Next.{covered_in, row_lasting}
 use Rattle.merge.specs.Places.{direction_of, all_passed, all_left}
 use Rattle.merge.specs.Steps.{GoesOn, AreAt, IsRowAt}

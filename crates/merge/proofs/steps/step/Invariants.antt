@@ -1,5 +1,5 @@
 use Rattle.std.proofs.Common.{◌≡◌, length, map}
-use Rattle.hse_rows.specs.Cursor.{Position}
+use Rattle.hse_rows.specs.script.Cursor.{Position}
 use Rattle.merge.specs.Places.{direction_of, all_left}
 use Rattle.merge.specs.Steps.{GoesOn, AreAt}
 use Rattle.merge.proofs.steps.step.Given as goal

@@ -1,5 +1,5 @@
 use Rattle.std.proofs.Common.{◌∙◌, sym, ap, map}
-use Rattle.hse_rows.specs.Meaning.{value_said}
+use Rattle.hse_rows.specs.rows.Meaning.{value_said}
 use Rattle.row_laws.proofs.SourceLemmas.{first-decides}
 use Rattle.row_laws.proofs.lookup.get_in.Goals as goal
 

@@ -1,5 +1,5 @@
 use Rattle.std.proofs.Common.{◌≡◌, drop}
-use Rattle.hse_rows.specs.Meaning.{covered_at, greater}
+use Rattle.hse_rows.specs.rows.Meaning.{covered_at, greater}
 use Rattle.row_laws.proofs.sorted_rows.covered_in.Given as goal
 
 -- the greatest so far and that of the rest is that of all

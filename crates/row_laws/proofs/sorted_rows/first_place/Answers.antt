@@ -1,4 +1,4 @@
-use Rattle.hse_rows.specs.RowSets.{key_row}
+use Rattle.hse_rows.specs.rows.RowSets.{key_row}
 use Rattle.row_laws.proofs.RowSetLemmas.{place-found, place-missing, place-searched}
 use Rattle.row_laws.proofs.sorted_rows.first_place.Goals as goal
 

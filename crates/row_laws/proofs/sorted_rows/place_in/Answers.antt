@@ -1,7 +1,7 @@
 use Rattle.std.proofs.Common.{rules}
 use Rattle.std.proofs.lemmas.Fn.{always_returns_same}
-use Rattle.hse_rows.specs.Newest.{row_cmp}
-use Rattle.hse_rows.specs.RowSets.{key_row}
+use Rattle.hse_rows.specs.rows.Newest.{row_cmp}
+use Rattle.hse_rows.specs.rows.RowSets.{key_row}
 use Rattle.row_laws.proofs.sorted_rows.place_in.Goals as goal
 
 pub returns-clause-position : goal.returns-clause-position

@@ -1,5 +1,5 @@
 use Rattle.std.proofs.Common.{arith}
-use Rattle.hse_rows.specs.Change.{write_of}
+use Rattle.hse_rows.specs.writes.Change.{write_of}
 use Rattle.rows_tests.proofs.write_sets.charge_after.Goals as goal
 
 pub charge_with-requires : goal.charge_with-requires

@@ -2,7 +2,7 @@ use Rattle.std.proofs.Common.{◌≡◌, ◌∙◌, ◌++◌, [], ℕ, length, a
 use Rattle.std.proofs.lemmas.List.{length-map}
 use Rattle.byteorder.specs.Endian.{big_bytes}
 use Rattle.hse_fields.specs.LogText.{change_text}
-use Rattle.hse_rows.specs.Change.{change_of, write_of}
+use Rattle.hse_rows.specs.writes.Change.{change_of, write_of}
 use Rattle.wal.specs.Logged.{logged, logged_all}
 use Rattle.wal.proofs.TextLemmas.{begun-more, count_length, change_some, part_of}
 use Rattle.wal.proofs.encode.put_entry.Goals as goal

@@ -1,5 +1,5 @@
 use Rattle.std.proofs.Common.{List, ℕ, Some, None, ◌∙◌, sym, ap, take}
-use Rattle.hse_rows.specs.RowSets.{row_by}
+use Rattle.hse_rows.specs.rows.RowSets.{row_by}
 use Rattle.cn_tree.specs.Path.{depths}
 use Rattle.cn_tree.specs.Tree.{TreeNode, sets_at, sets_along, sets_on}
 use Rattle.cn_tree.specs.Found.{first_row}

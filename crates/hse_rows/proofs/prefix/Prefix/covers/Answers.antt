@@ -1,6 +1,6 @@
 use Rattle.std.proofs.Common.{◌≡◌, ap, ◌∙◌}
-use Rattle.hse_rows.specs.Change.{covers}
-use Rattle.hse_rows.specs.Covering.{covers-is}
+use Rattle.hse_rows.specs.writes.Change.{covers}
+use Rattle.hse_rows.specs.laws.Covering.{covers-is}
 use Rattle.hse_rows.proofs.prefix.Prefix.covers.Goals as goal
 
 is_covers : (c : goal.After-starts_with) → c.starts_with.result ≡ covers c.args.self.now c.args.key.now

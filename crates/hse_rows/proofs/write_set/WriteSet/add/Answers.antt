@@ -1,8 +1,8 @@
 use Rattle.std.proofs.Common.{◌≡◌, ap, sym, subst, ◌∙◌, ◌++◌, ◌∷◌, [], arith}
 use Rattle.std.specs.List.Sorted.{IsStrictlySortedBy}
-use Rattle.hse_rows.specs.Change.{write_of}
-use Rattle.hse_rows.specs.NormalForm.{write_cmp, added, normal_form}
-use Rattle.hse_rows.specs.Charge.{writes_bytes}
+use Rattle.hse_rows.specs.writes.Change.{write_of}
+use Rattle.hse_rows.specs.writes.NormalForm.{write_cmp, added, normal_form}
+use Rattle.hse_rows.specs.writes.Charge.{writes_bytes}
 use Rattle.hse_rows.proofs.WriteLemmas.{rising-added}
 use Rattle.hse_rows.proofs.ChargeLemmas.{next-is-added, next-of-all}
 use Rattle.hse_rows.proofs.write_set.WriteSet.add.Goals as goal

@@ -1,8 +1,8 @@
 use Rattle.std.proofs.Common.{ap, ◌∙◌, ◌+◌, ◌++◌, ◌∷◌, []}
 use Rattle.std.specs.List.{filter}
-use Rattle.hse_rows.specs.Change.{write_of}
-use Rattle.hse_rows.specs.NormalForm.{stays, normal_form}
-use Rattle.hse_rows.specs.Charge.{writes_bytes}
+use Rattle.hse_rows.specs.writes.Change.{write_of}
+use Rattle.hse_rows.specs.writes.NormalForm.{stays, normal_form}
+use Rattle.hse_rows.specs.writes.Charge.{writes_bytes}
 use Rattle.hse_rows.proofs.ChargeLemmas.{next-bytes}
 use Rattle.hse_rows.proofs.write_set.WriteSet.bytes_with.Goals as goal
 

@@ -1,5 +1,5 @@
 use Rattle.std.proofs.Common.{ap, sym, ◌∙◌}
-use Rattle.hse_rows.specs.NormalForm.{normal_form}
+use Rattle.hse_rows.specs.writes.NormalForm.{normal_form}
 use Rattle.hse_rows.proofs.WriteLemmas.{normal_form-rising}
 use Rattle.hse_rows.proofs.write_set.WriteSet.len.Goals as goal
 

@@ -1,5 +1,5 @@
 use Rattle.std.proofs.Common.{subst}
-use Rattle.hse_rows.specs.RowSets.{AreRows}
+use Rattle.hse_rows.specs.rows.RowSets.{AreRows}
 use Rattle.ingest_tree.proofs.StoreLemmas.{store-rows}
 use Rattle.ingest_tree.proofs.store_rows.StoreRowsRowSet.known.Goals as goal
 

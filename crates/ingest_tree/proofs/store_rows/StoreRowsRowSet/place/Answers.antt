@@ -1,5 +1,5 @@
 use Rattle.std.proofs.Common.{ap, arith}
-use Rattle.hse_rows.specs.RowSets.{place_of}
+use Rattle.hse_rows.specs.rows.RowSets.{place_of}
 use Rattle.ingest_tree.proofs.StoreLemmas.{count-key}
 use Rattle.ingest_tree.proofs.store_rows.StoreRowsRowSet.place.Goals as goal
 

@@ -3,7 +3,7 @@ use Rattle.std.specs.List.{find}
 use Rattle.std.specs.Option.{option_map}
 use Rattle.std.specs.Ordering.{is_eq}
 use Rattle.hse_rows.specs.declared.change.Change.TheVariants.{PDel}
-use Rattle.hse_rows.specs.Meaning.{greater}
+use Rattle.hse_rows.specs.rows.Meaning.{greater}
 use Rattle.ingest_tree.specs.declared.store_row.StoreRow.{StoreRow}
 use Rattle.ingest_tree.specs.Rows.{row, store_row, store_row_cmp}
 use Rattle.ingest_tree.specs.Covered.{covered_below}

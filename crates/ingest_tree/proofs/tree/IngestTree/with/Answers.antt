@@ -1,6 +1,6 @@
 use Rattle.std.proofs.Common.{◌≡◌, ◌+◌, ◌/◌, ◌≤◌, length, ap, sym, ◌∙◌, subst, arith}
 use Rattle.std.specs.List.{flat_map}
-use Rattle.hse_rows.specs.Change.{FitsLimits}
+use Rattle.hse_rows.specs.writes.Change.{FitsLimits}
 use Rattle.sorted_lists.specs.Places.{with_one}
 use Rattle.ingest_tree.specs.declared.store_row.StoreRow.{StoreRow}
 use Rattle.ingest_tree.specs.Lengths.{IsInUse}

@@ -3,7 +3,7 @@ use Rattle.std.proofs.lemmas.List.{with_items_is}
 use Rattle.std.specs.Prelude.{IfSome}
 use Rattle.hse_rows.specs.declared.row.Row.{Row}
 use Rattle.std.specs.List.{AllByRecursion}
-use Rattle.hse_rows.specs.RowSets.{AreRows}
+use Rattle.hse_rows.specs.rows.RowSets.{AreRows}
 use Rattle.row_laws.specs.Sources.{all_rows}
 use Rattle.row_laws.specs.Merging.{AreOncePerNumber}
 use Rattle.row_laws.specs.Next.{OwnFalls}

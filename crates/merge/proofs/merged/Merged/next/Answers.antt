@@ -1,5 +1,5 @@
 use Rattle.std.proofs.Common.{Some, None, refl}
-use Rattle.hse_rows.specs.RowSets.{row_of}
+use Rattle.hse_rows.specs.rows.RowSets.{row_of}
 use Rattle.merge.proofs.merged.Merged.next.Goals as goal
 
 pub returns-in-None : goal.returns-in-None

@@ -1,7 +1,7 @@
 use Rattle.std.proofs.Common.{◌≡◌, ℕ, ◌+◌, suc, List, length, sym, ap, subst, ◌∙◌, arith}
 use Rattle.std.specs.Prelude.{nat_lt}
 use Rattle.std.specs.List.{filter}
-use Rattle.hse_rows.specs.Meaning.{greater, covered_at}
+use Rattle.hse_rows.specs.rows.Meaning.{greater, covered_at}
 use Rattle.prefix_delete.specs.declared.entry.Entry.{Entry}
 use Rattle.prefix_delete.specs.Prefixes.{ArePrefixes, rows_of}
 use Rattle.prefix_delete.proofs.CoverLemmas.{split, shorter-none, shorter-all}

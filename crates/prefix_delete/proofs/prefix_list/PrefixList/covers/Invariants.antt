@@ -1,7 +1,7 @@
 use Rattle.std.proofs.Common.{◌≡◌, length}
 use Rattle.std.specs.Prelude.{nat_lt}
 use Rattle.std.specs.List.{filter}
-use Rattle.hse_rows.specs.Meaning.{covered_at}
+use Rattle.hse_rows.specs.rows.Meaning.{covered_at}
 use Rattle.prefix_delete.specs.Prefixes.{rows_of}
 use Rattle.prefix_delete.proofs.prefix_list.PrefixList.covers.Given as goal
 

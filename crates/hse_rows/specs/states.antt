@@ -1,0 +1,4 @@
+-- States and histories.
+pub mod State
+pub mod History
+pub mod Rooted
