@@ -24,7 +24,8 @@ use Rattle.hse_rows.specs.Meaning.{contents_of, is_own, is_covering, newer, own_
 use Rattle.row_laws.specs.Step.{AgreesWith, AreAgreed}
 use Rattle.hse_rows.specs.RowSets.{key_row}
 use Rattle.row_laws.specs.Merging.{is_key_row, key_rows, pairs_of, AreTwoKeys, AreOncePerNumber}
-use Rattle.row_laws.proofs.SortedLemmas.{each-weaker, each-filter, each-placed, rising-placed, filter-sorted}
+use Rattle.sorted_lists.specs.laws.Lists.{each-weaker, each-filter}
+use Rattle.sorted_lists.specs.laws.Orders.{each-placed, rising-placed, filter-sorted}
 use Rattle.row_laws.proofs.MeaningLemmas.{Mark, left, get-top, get-contents_of}
 use Rattle.row_laws.proofs.StepLemmas.{row_order, tie-parts}
 use Rattle.row_laws.proofs.NewestLemmas.{top-newest}

@@ -20,7 +20,8 @@ use Rattle.row_laws.specs.Sources.{all_rows}
 use Rattle.hse_rows.specs.RowSets.{AreRows, key_row}
 use Rattle.row_laws.specs.Merging.{is_key_row}
 use Rattle.row_laws.specs.Next.{is_from, is_row_from, lesser, least_after, covered_in, IsFirstRow, OwnFalls}
-use Rattle.row_laws.proofs.SortedLemmas.{each-weaker, less-then}
+use Rattle.sorted_lists.specs.laws.Lists.{each-weaker}
+use Rattle.sorted_lists.specs.laws.Orders.{less-then}
 use Rattle.row_laws.proofs.RowSetLemmas.{own-ties, none-own, own-found, newer-none}
 use Rattle.row_laws.proofs.NextLemmas.{above-greater}
 use Rattle.row_laws.proofs.PartLemmas.{covered-append}

@@ -10,7 +10,7 @@ use Rattle.hse_rows.specs.Reach.{reaches}
 use Rattle.hse_rows.specs.Meaning.{is_own, is_covering, newer, own_at, greater, covered_at}
 use Rattle.row_laws.specs.Merging.{is_key_row, key_rows, AreTwoKeys, AreOncePerNumber}
 use Rattle.row_laws.specs.Next.{row_lasting, lasting_at}
-use Rattle.row_laws.proofs.SortedLemmas.{each-weaker}
+use Rattle.sorted_lists.specs.laws.Lists.{each-weaker}
 use Rattle.row_laws.proofs.MarkLemmas.{Marked, later, Swap, swap-told, Where, top, top-sorted, top-kept, none-filter, over-top, IsOver, MayPassAll}
 use Rattle.row_laws.proofs.StepLemmas.{row_order}
 use Rattle.row_laws.proofs.NewestLemmas.{hides_reaches}

@@ -7,7 +7,7 @@ use Rattle.std.specs.Ordering.{is_lt}
 use Rattle.std.specs.List.{AllByRecursion, fold, filter, list_any}
 use Rattle.std.specs.Cmp.{IsTotalOrder}
 use Rattle.hse_rows.specs.Sorted.{placed, sorted}
-use Rattle.row_laws.proofs.SortedLemmas.{each-placed, Ascends, ascends-placed, below-ascending}
+use Rattle.sorted_lists.specs.laws.Orders.{each-placed, Ascends, ascends-placed, below-ascending}
 
 abbrev pub Marked : Type 0 → Type 0
 Marked V = ℕ × V

@@ -19,7 +19,8 @@ use Rattle.hse_rows.specs.State.{Contents, changed}
 use Rattle.hse_rows.specs.Holding.{get-changed, same_contents}
 use Rattle.row_laws.specs.Step.{IsInOrder}
 use Rattle.hse_rows.specs.Meaning.{apply_cmp, contents_after_rows, contents_of, is_own, is_covering, newer, own_at, greater, covered_at, said, value_said}
-use Rattle.row_laws.proofs.SortedLemmas.{each-weaker, Ascends}
+use Rattle.sorted_lists.specs.laws.Lists.{each-weaker}
+use Rattle.sorted_lists.specs.laws.Orders.{Ascends}
 use Rattle.row_laws.proofs.MarkLemmas.{Marked, later, later-none, later-first, later-second, later-assoc, Swap, swap-told, Where, top, where-top, MayPass, MayPassAll, top-sorted, ascends-sorted}
 
 -- ---- the order in which rows apply, as numbers

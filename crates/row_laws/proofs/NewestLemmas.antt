@@ -15,7 +15,7 @@ use Rattle.hse_rows.specs.Reach.{reaches, leaves}
 use Rattle.hse_rows.specs.Holding.{same_contents}
 use Rattle.hse_rows.specs.Meaning.{contents_of, value_said}
 use Rattle.row_laws.specs.Step.{AgreesWith, AreAgreed}
-use Rattle.row_laws.proofs.SortedLemmas.{each-weaker, each-filter}
+use Rattle.sorted_lists.specs.laws.Lists.{each-weaker, each-filter}
 use Rattle.row_laws.proofs.MarkLemmas.{later, Where, top, top-append, top-sorted, top-kept, over-top, IsOver, MayPass, MayPassAll}
 use Rattle.row_laws.proofs.MeaningLemmas.{Mark, stamp, rank-small, left, mark, get-top}
 use Rattle.row_laws.proofs.StepLemmas.{row_order, swap-agreed}

@@ -14,7 +14,8 @@ use Rattle.hse_rows.specs.Newest.{row_cmp}
 use Rattle.hse_rows.specs.Meaning.{is_own}
 use Rattle.hse_rows.specs.RowSets.{key_row, is_before, place_of}
 use Rattle.row_laws.specs.Next.{is_from, is_row_from}
-use Rattle.row_laws.proofs.SortedLemmas.{each-weaker, turned}
+use Rattle.sorted_lists.specs.laws.Lists.{each-weaker}
+use Rattle.sorted_lists.specs.laws.Orders.{turned}
 use Rattle.row_laws.proofs.StepLemmas.{row_order}
 use Rattle.row_laws.proofs.RowSetLemmas.{own-ties, above-tied, before-less, one-more, none-before}
 

@@ -16,7 +16,7 @@ use Rattle.row_laws.proofs.MeaningLemmas.{get-contents_of}
 use Rattle.hse_rows.specs.Meaning.{contents_of, own_at, covered_at, said, value_said}
 use Rattle.row_laws.specs.Merging.{is_key_row, key_rows, next_by, AreOncePerNumber}
 use Rattle.row_laws.specs.Next.{position_of, is_from, is_row_from, row_lasting, lasting_at, value_left, IsFirstRow}
-use Rattle.row_laws.proofs.SortedLemmas.{turned}
+use Rattle.sorted_lists.specs.laws.Orders.{turned}
 use Rattle.row_laws.proofs.EntryLemmas.{each-kept, rising-key_rows}
 use Rattle.row_laws.proofs.FirstLemmas.{first-same, first-one}
 use Rattle.row_laws.proofs.ListLemmas.{own-merged}

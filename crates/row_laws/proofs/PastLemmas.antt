@@ -15,7 +15,7 @@ use Rattle.hse_rows.specs.Reach.{reaches}
 use Rattle.hse_rows.specs.Meaning.{is_own, own_at, covered_at}
 use Rattle.row_laws.specs.Merging.{is_key_row}
 use Rattle.row_laws.specs.Next.{is_from, is_row_from, row_lasting, lasting_at, IsFirstRow, IsPast}
-use Rattle.row_laws.proofs.SortedLemmas.{turned}
+use Rattle.sorted_lists.specs.laws.Orders.{turned}
 use Rattle.row_laws.proofs.SourceLemmas.{is_some-own}
 use Rattle.row_laws.proofs.FirstLemmas.{own-target}
 

@@ -13,7 +13,9 @@ use Rattle.hse_rows.specs.declared.row.Row.{Row}
 use Rattle.hse_rows.specs.Newest.{row_cmp}
 use Rattle.hse_rows.specs.Meaning.{is_own, newer, own_at, greater}
 use Rattle.hse_rows.specs.RowSets.{key_row, is_before, place_of}
-use Rattle.row_laws.proofs.SortedLemmas.{each-weaker, each-at, turned, IsPlace, searchable, apart-missing, place-later, place-past}
+use Rattle.sorted_lists.specs.Places.{IsPlace}
+use Rattle.sorted_lists.specs.laws.Lists.{each-weaker, each-at}
+use Rattle.sorted_lists.specs.laws.Orders.{turned, searchable, apart-missing, place-later, place-past}
 use Rattle.row_laws.proofs.StepLemmas.{row_order, tie-parts}
 
 -- a row is of a key where it ties with a row of the key
@@ -59,7 +61,7 @@ module _ (key : List ℕ) where
       ap (λ b. newer (cond b (Some row) None) (own_at key rows)) (own-ties row key ∙ ap is_eq less)
       ∙ own-found rows i d rise.1 (omega arith) tied
 
-  pub own-missing : (rows : List Row) (i : ℕ) → IsPlace row_order rows (key_row key) i → own_at key rows ≡ None
+  pub own-missing : (rows : List Row) (i : ℕ) → IsPlace row_cmp rows (key_row key) i → own_at key rows ≡ None
   own-missing rows i place =
       none-own key rows
       (each-weaker (λ row apart. own-ties row key ∙ ap is_eq (row_order.antisymm row (key_row key)) ∙ eq-turned (row_cmp (key_row key) row) ∙ apart) rows
@@ -97,7 +99,7 @@ module _ (key : List ℕ) where
       let less : row_cmp row (key_row key) ≡ Less = sym (alike_right row_order (get_or rows i d) (key_row key) row tied) ∙ each-at _ rows i d rise.0 (omega arith) in
       sym (one-more row rows i less (sym (place-found rows i d rise.1 (omega arith) tied)))
 
-  pub place-missing : (rows : List Row) (i : ℕ) → IsPlace row_order rows (key_row key) i → i ≡ place_of key rows
+  pub place-missing : (rows : List Row) (i : ℕ) → IsPlace row_cmp rows (key_row key) i → i ≡ place_of key rows
   place-missing [] zero place = refl
   place-missing [] (suc i) place = let h = place.within in absurd (omega arith)
   place-missing (row ∷ rows) zero place =
@@ -112,7 +114,7 @@ module _ (key : List ℕ) where
   abbrev pub Searched : List Row → Result ℕ ℕ → Type 0
   Searched rows place = IsBinarySearchResult (λ row. row_cmp row (key_row key)) rows place
 
-  pub place-searched : (rows : List Row) (i : ℕ) → IsStrictlySortedBy row_cmp rows → i ≤ length rows → Searched rows (Err i) → IsPlace row_order rows (key_row key) i
+  pub place-searched : (rows : List Row) (i : ℕ) → IsStrictlySortedBy row_cmp rows → i ≤ length rows → Searched rows (Err i) → IsPlace row_cmp rows (key_row key) i
   place-searched rows i rise within missing =
       let parts = missing (searchable row_order rows (key_row key) rise) in
       record { within = within; below = parts.0; above = parts.1 }

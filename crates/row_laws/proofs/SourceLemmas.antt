@@ -8,7 +8,7 @@ use Rattle.hse_rows.specs.declared.row.Row.{Row}
 use Rattle.hse_rows.specs.Reach.{reaches}
 use Rattle.hse_rows.specs.Meaning.{contents_of, is_own, newer, own_at, covered_at, said, value_said}
 use Rattle.row_laws.specs.Sources.{all_rows, IsAbove, Falls, AreLayersOver, or_else, first_said}
-use Rattle.row_laws.proofs.SortedLemmas.{each-weaker}
+use Rattle.sorted_lists.specs.laws.Lists.{each-weaker}
 use Rattle.row_laws.proofs.MarkLemmas.{later, later-first, Where, top, top-append, where-top}
 use Rattle.row_laws.proofs.MeaningLemmas.{Mark, stamp, rank-small, left, mark, where-mark, said-top, get-top}
 

@@ -17,7 +17,7 @@ use Rattle.hse_rows.specs.State.{changed}
 use Rattle.hse_rows.specs.Holding.{get-changed, same_contents}
 use Rattle.hse_rows.specs.Meaning.{apply_cmp, contents_of, with_row, value_said}
 use Rattle.row_laws.specs.Step.{AppliesLast}
-use Rattle.row_laws.proofs.SortedLemmas.{each-weaker, each-filter}
+use Rattle.sorted_lists.specs.laws.Lists.{each-weaker, each-filter}
 use Rattle.row_laws.proofs.MarkLemmas.{later, later-none, later-second, Swap, Where, top, where-top, top-filter, top-put}
 use Rattle.row_laws.proofs.MeaningLemmas.{Mark, stamp, rank-small, is_lt-stamp, left, mark, where-mark, swap-marks, get-top}
 

@@ -1,0 +1,39 @@
+use Rattle.std.proofs.Common.{◌≡◌, ◌<◌, ◌≤◌, ◌+◌, ◌-◌, ◌/◌, subst, sym, ◌∙◌, arith, length}
+use Rattle.sorted_lists.specs.laws.Lists.{each-at}
+use Rattle.ingest_tree.specs.Rows.{row_at}
+use Rattle.ingest_tree.proofs.PartLemmas.{IsWithin, one-within, narrowed-behind, narrowed-before}
+use Rattle.ingest_tree.proofs.search.child_at.Goals as goal
+
+pub loop-high-preserved-then-begins_behind : goal.loop-high-preserved-then-begins_behind
+loop-high-preserved-then-begins_behind g c =
+    let within = c.loop-high.invariant.within in
+    let apart = c.loop-high-test.true in
+    let part = c.index-parts-middle.result in
+    narrowed-behind g.T.Part.rows c.args.parts.now (row_at c.args.spot) c.loop-high.low c.loop-high.high
+    (c.loop-high.low + (c.loop-high.high - c.loop-high.low) / 2) part part c.requires.rising c.loop-high.invariant
+    c.index-parts-middle.is
+    (g.met.T.Part.begins part
+    (subst g.T.Part.sound (sym c.index-parts-middle.is)
+    (each-at g.T.Part.sound c.args.parts.now (c.loop-high.low + (c.loop-high.high - c.loop-high.low) / 2) part c.requires.sound (omega (arith, apart, within)))))
+    (omega (arith, apart)) (omega (arith, apart))
+    (λ row first. sym (c.begins_behind.ensures row first) ∙ c.if-begins_behind.true)
+
+pub loop-high-preserved : goal.loop-high-preserved
+loop-high-preserved g c =
+    let within = c.loop-high.invariant.within in
+    let apart = c.loop-high-test.true in
+    let part = c.index-parts-middle.result in
+    narrowed-before g.T.Part.rows c.args.parts.now (row_at c.args.spot) c.loop-high.low c.loop-high.high
+    (c.loop-high.low + (c.loop-high.high - c.loop-high.low) / 2) part part c.requires.rising c.loop-high.invariant
+    c.index-parts-middle.is
+    (g.met.T.Part.begins part
+    (subst g.T.Part.sound (sym c.index-parts-middle.is)
+    (each-at g.T.Part.sound c.args.parts.now (c.loop-high.low + (c.loop-high.high - c.loop-high.low) / 2) part c.requires.sound (omega (arith, apart, within)))))
+    (omega (arith, apart))
+    (λ row first. sym (c.begins_behind.ensures row first) ∙ c.if-begins_behind.false)
+
+pub returns : goal.returns
+returns g c =
+    let near = c.loop-high-test.false in
+    let some = c.loop-high.invariant.some in
+    one-within g.T.Part.rows c.args.parts.now (row_at c.args.spot) c.loop-high.low c.loop-high.high c.loop-high.invariant (omega (arith, near, some))

@@ -1,0 +1,38 @@
+-- Rows of several stores in one order.
+use Rattle.std.specs.Prelude.{ℕ, ◌==◌, List, map}
+use Rattle.std.specs.List.{filter}
+use Rattle.std.specs.declared.cmp.Ordering.{Ordering}
+use Rattle.std.specs.Ordering.{nat_cmp, on, then_cmp}
+use Rattle.hse_rows.specs.declared.row.Row.{Row}
+use Rattle.hse_rows.specs.declared.row.RowRef.{RowRef}
+use Rattle.hse_rows.specs.declared.store.StoreId.{StoreId}
+use Rattle.hse_rows.specs.declared.change.Change.{Change}
+use Rattle.hse_rows.specs.Change.{change_of}
+use Rattle.hse_rows.specs.Newest.{row_cmp}
+use Rattle.hse_rows.specs.RowSets.{row_of}
+use Rattle.ingest_tree.specs.declared.store_row.StoreRow.{StoreRow}
+use Rattle.ingest_tree.specs.declared.store_row.Spot.{Spot}
+
+-- by store id, and then as the rows of a set
+abbrev pub store_row_cmp : StoreRow → StoreRow → Ordering
+store_row_cmp =
+    then_cmp (on (λ (row : StoreRow). row.store.0) nat_cmp)
+    (on (λ (row : StoreRow). row.row) row_cmp)
+
+-- the rows of the store of this id
+abbrev pub rows_in : ℕ → List StoreRow → List Row
+rows_in id rows = map (λ (row : StoreRow). row.row) (filter (λ (row : StoreRow). row.store.0 == id) rows)
+
+abbrev pub store_row : StoreId → Row → StoreRow
+store_row store row = record { store = store; row = row }
+
+abbrev pub row : ℕ → Change → Row
+row number change = record { number = number; change = change }
+
+-- a row that stands where a spot is
+abbrev pub row_at : Spot → StoreRow
+row_at spot = store_row spot.store (row 0 (change_of spot.change))
+
+-- the row that an item is
+abbrev pub item_of : StoreId × RowRef → StoreRow
+item_of item = store_row item.0 (row_of item.1)

@@ -1,0 +1,270 @@
+//! A leaf or a branch: parts in a row, which several owners share.
+ghost use Rattle.std.specs.Prelude.{◌≡◌, ◌≤◌, ◌<◌, ◌+◌, ◌*◌, ◌^◌, [], ◌∷◌, length, take, IfOk};
+ghost use Rattle.std.specs.List.{flat_map};
+ghost use Rattle.std.specs.List.{filter, find as walk};
+ghost use Rattle.std.specs.List.Sorted.{IsStrictlySortedBy};
+ghost use Rattle.std.specs.Option.{option_map};
+ghost use Rattle.std.specs.Ordering.{is_lt, is_eq};
+ghost use Rattle.sorted_lists.specs.Places.{with_one};
+ghost use Rattle.ingest_tree.specs.Rows.{store_row_cmp, row_at};
+ghost use Rattle.ingest_tree.specs.Parts.{Stand, IsFinished, IsOver, parts_of};
+
+use crate::builder::{Builder, rebuilt};
+use crate::part::{Grown, Part};
+use crate::search::child_at;
+use crate::steps::Steps;
+use crate::store_row::{SharedRow, Spot, StoreRow};
+use hse_io::NoMemory;
+use std::alloc::Global;
+use std::marker::Model;
+use std::sync::Arc;
+use std::sync::ledger::Ledger;
+
+/// Parts in a row, with how many rows they have.
+#[derive(Drop)]
+pub(crate) struct Node<T: Part> {
+    parts: Arc<Vec<T>>,
+    count: u64,
+}
+
+impl<T: Part> Model for Node<T> {
+    ghost use Rattle.std.specs.Prelude.{◌≡◌, List, length};
+    ghost use Rattle.std.specs.List.{flat_map};
+    ghost use Rattle.std.specs.Arc.{arc_value};
+
+    ghost Value = { List T };
+
+    ghost view = { λ n. (arc_value n.parts).items };
+
+    ghost invariant = { λ n. n.count ≡ length (flat_map T.rows (arc_value n.parts).items) };
+}
+
+/// A leaf, and a branch.
+pub(crate) type Leaf = Node<SharedRow>;
+
+pub(crate) type Branch = Node<Leaf>;
+
+/// The most parts of a leaf and of a branch.
+const MOST: usize = 128;
+
+/// How many parts the first of two has after a split.
+const HALF: usize = 64;
+
+/// How many rows these parts have.
+fn counted<T: Part>(parts: &[T]) -> Result<u64, NoMemory>
+    ensures { IfOk result (λ count. count ≡ length (flat_map T.rows parts.now)) }
+{
+    let mut count: u64 = 0;
+    for part in parts {
+        match count.checked_add(part.count()) {
+            Some(more) => count = more,
+            None => return Err(NoMemory),
+        }
+    }
+    Ok(count)
+}
+
+impl<T: Part> Node<T> {
+    /// A node of these parts.
+    pub fn new(alloc: Global, parts: Vec<T>) -> Result<Node<T>, NoMemory>
+        ensures { IfOk result (λ node. node ≡ parts.items) }
+    {
+        let count = counted(&parts)?;
+        let parts = Arc::new(alloc, parts)?;
+        Ok(Node { parts, count })
+    }
+
+    /// Its parts.
+    pub fn parts(&self) -> &[T]
+        ensures { result.now ≡ self.now }
+    {
+        &self.parts
+    }
+}
+
+/// The node or the two nodes that the builder's parts make.
+fn finished<T: Part>(alloc: Global, builder: Builder<T>) -> Result<Grown<Node<T>>, NoMemory>
+    ensures { IfOk result (λ grown. IsFinished builder.first.items builder.second.items grown.0 grown.1) }
+{
+    let Builder {
+        first,
+        second,
+        cut: _,
+    } = builder;
+    let node = Node::new(alloc, first)?;
+    if second.is_empty() {
+        return Ok((node, None));
+    }
+    let other = Node::new(alloc, second)?;
+    Ok((node, Some(other)))
+}
+
+/// The part at a place, and how many rows stand before it.
+fn part_over<T: Part>(parts: &[T], place: u64) -> (usize, u64)
+    requires { place < length (flat_map T.rows parts.now) }
+    ensures { IsOver T.rows parts.now place result.0 result.1 }
+{
+    let mut before: u64 = 0;
+    for at in 0..parts.len() {
+        let count = parts[at].count();
+        if place - before < count {
+            return (at, before);
+        }
+        before += count;
+    }
+    unreachable!()
+}
+
+/// How many rows stand in the first parts.
+fn counted_before<T: Part>(parts: &[T], at: usize) -> u64
+    requires within { at ≤ length parts.now }
+    requires fits { length (flat_map T.rows parts.now) < 2 ^ 64 }
+    ensures { result ≡ length (flat_map T.rows (take at parts.now)) }
+{
+    let (front, _) = parts.split_at(at);
+    let mut count: u64 = 0;
+    for part in front {
+        count += part.count();
+    }
+    count
+}
+
+/// How many parts the first node takes, where one of so many parts became this.
+fn cut_for<T: Part>(count: usize, grown: &Grown<T>) -> usize
+    requires { count ≤ 128 }
+    ensures whole { count + length (parts_of grown.now.0 grown.now.1) ≤ 129 → result ≡ 128 }
+    ensures halves { 129 < count + length (parts_of grown.now.0 grown.now.1) → result ≡ 64 }
+{
+    match &grown.1 {
+        None => MOST,
+        Some(_) => { if count < MOST { MOST } else { HALF } }
+    }
+}
+
+impl<T: Part> Part for Node<T> {
+    ghost use Rattle.std.specs.List.{flat_map};
+    ghost use Rattle.std.specs.Prelude.{◌*◌, ◌+◌};
+    ghost use Rattle.ingest_tree.specs.Parts.{IsSoundNode, IsFilledNode};
+    ghost use Rattle.ingest_tree.specs.Filling.{filled-sound, filled-rows, sound-begins};
+
+    ghost rows = { λ node. flat_map T.rows node };
+
+    ghost filled = { λ node. IsFilledNode T.filled node };
+
+    ghost sound = { λ node. IsSoundNode T.filled T.sound node };
+
+    ghost weight = { 64 * T.weight };
+
+    ghost cost = { T.cost + 129 };
+
+    ghost is_sound = { filled-sound T.filled T.sound T.is_sound };
+
+    ghost has_rows = { λ node. filled-rows T.filled T.sound T.is_sound T.rows T.weight T.has_rows node };
+
+    ghost begins = { λ node sound. sound-begins T.filled T.sound T.is_sound T.rows T.begins node sound.1 };
+
+    fn count(&self) -> u64 {
+        self.count
+    }
+
+    fn first(&self) -> &StoreRow {
+        self.parts()[0].first()
+    }
+
+    fn at(&self, place: u64) -> &StoreRow {
+        let parts = self.parts();
+        let (at, before) = part_over(parts, place);
+        parts[at].at(place - before)
+    }
+
+    fn find(&self, spot: Spot<'_>) -> Option<&StoreRow> {
+        self.find_in(spot)
+    }
+
+    fn place(&self, spot: Spot<'_>) -> u64 {
+        self.place_in(spot)
+    }
+
+    fn share(&self) -> Result<Node<T>, NoMemory> {
+        Ok(Node {
+            parts: self.parts.clone()?,
+            count: self.count,
+        })
+    }
+
+    fn with<L: Ledger>(
+        &self,
+        alloc: Global,
+        row: SharedRow,
+        steps: &mut Steps<L>,
+    ) -> Result<Grown<Node<T>>, NoMemory> {
+        let parts = self.parts();
+        let at = child_at(parts, row.row().spot());
+        let grown = parts[at].with(alloc, row, steps)?;
+        let cut = cut_for(parts.len(), &grown);
+        let builder = rebuilt(alloc, parts, at, grown, cut, steps)?;
+        finished(alloc, builder)
+    }
+}
+
+/// A node of one part.
+pub(crate) fn lone<T: Part, L: Ledger>(
+    alloc: Global,
+    part: T,
+    steps: &mut Steps<L>,
+) -> Result<Node<T>, NoMemory>
+    ensures node { IfOk result (λ node. node ≡ part ∷ []) }
+    ensures cost { steps.new ≤ steps.old + 1 }
+{
+    let mut builder = Builder::new(alloc, 1, 1)?;
+    builder.put(part, steps)?;
+    Node::new(alloc, builder.first)
+}
+
+/// A root, which has room for any number of parts, with one more row. The old one stays.
+pub(crate) fn root_with<T: Part, L: Ledger>(
+    alloc: Global,
+    root: &Node<T>,
+    row: SharedRow,
+    steps: &mut Steps<L>,
+) -> Result<Node<T>, NoMemory>
+    requires stands { Stand T.filled T.sound root.now }
+    requires rising { IsStrictlySortedBy store_row_cmp (flat_map T.rows root.now) }
+    ensures rows { IfOk result (λ node. flat_map T.rows node ≡ with_one store_row_cmp (flat_map T.rows root.now) row) }
+    ensures stands { IfOk result (λ node. Stand T.filled T.sound node) }
+    ensures cost { steps.new ≤ steps.old + (T.cost + (length root.now + 1)) }
+{
+    let parts = root.parts();
+    let Some(cut) = parts.len().checked_add(1) else {
+        return Err(NoMemory);
+    };
+    let at = child_at(parts, row.row().spot());
+    let grown = parts[at].with(alloc, row, steps)?;
+    let builder = rebuilt(alloc, parts, at, grown, cut, steps)?;
+    Node::new(alloc, builder.first)
+}
+
+impl<T: Part> Node<T> {
+    /// The row at this spot, where there may be any number of parts.
+    pub fn find_in(&self, spot: Spot<'_>) -> Option<&StoreRow>
+        requires stands { Stand T.filled T.sound self.now }
+        requires rising { IsStrictlySortedBy store_row_cmp (flat_map T.rows self.now) }
+        ensures { option_map (λ row. row.now) result
+            ≡ walk (λ row. is_eq (store_row_cmp row (row_at spot.entry))) (flat_map T.rows self.now) }
+    {
+        let parts = self.parts();
+        parts[child_at(parts, spot)].find(spot)
+    }
+
+    /// How many rows stand before this spot, where there may be any number of parts.
+    pub fn place_in(&self, spot: Spot<'_>) -> u64
+        requires stands { Stand T.filled T.sound self.now }
+        requires rising { IsStrictlySortedBy store_row_cmp (flat_map T.rows self.now) }
+        ensures { result ≡ length (filter (λ row. is_lt (store_row_cmp row (row_at spot.entry))) (flat_map T.rows self.now)) }
+    {
+        let _all = self.count;
+        let parts = self.parts();
+        let at = child_at(parts, spot);
+        counted_before(parts, at) + parts[at].place(spot)
+    }
+}

@@ -1,0 +1,161 @@
+//! A part of the tree: a row, a leaf or a branch.
+ghost use Rattle.std.specs.Prelude.{◌≡◌, ◌≤◌, ◌<◌, ◌+◌, ◌*◌, ℕ, List, [], ◌∷◌, length, slice_get, Some, IfOk};
+ghost use Rattle.std.specs.List.{flat_map, filter, find as walk};
+ghost use Rattle.std.specs.List.Sorted.{IsStrictlySortedBy};
+ghost use Rattle.std.specs.Option.{option_map};
+ghost use Rattle.std.specs.Ordering.{is_lt, is_eq};
+ghost use Rattle.sorted_lists.specs.Places.{with_one};
+ghost use Rattle.ingest_tree.specs.declared.store_row.StoreRow.{StoreRow as a_row};
+ghost use Rattle.ingest_tree.specs.Rows.{store_row_cmp, row_at};
+ghost use Rattle.ingest_tree.specs.Parts.{parts_of, Grows};
+
+use crate::steps::Steps;
+use crate::store_row::{SharedRow, Spot, StoreRow};
+use hse_io::NoMemory;
+use std::alloc::Global;
+use std::cmp::Ordering;
+use std::sync::ledger::Ledger;
+
+/// A part, and the second of the two that it was split into.
+pub(crate) type Grown<T> = (T, Option<T>);
+
+/// Rows in order that stand together.
+pub(crate) trait Part: Drop + Sized {
+    /// The rows, however they are kept.
+    ghost rows: { Self → List a_row };
+
+    /// Whether each node in it has at least half its room full.
+    ghost filled: { Self → Type 0 };
+
+    /// Whether each node has a part, none too many, and is filled where it is not alone.
+    ghost sound: { Self → Type 0 };
+
+    /// How many rows a filled one has at least.
+    ghost weight: { ℕ };
+
+    /// How many steps one more row takes at most.
+    ghost cost: { ℕ };
+
+    /// How many rows there are.
+    fn count(&self) -> u64
+        ensures { result ≡ length (rows self.now) };
+
+    /// The first row.
+    fn first(&self) -> &StoreRow
+        requires { sound self.now }
+        ensures { slice_get (rows self.now) 0 ≡ Some result.now };
+
+    /// The row at a place.
+    fn at(&self, place: u64) -> &StoreRow
+        requires { place < length (rows self.now) }
+        ensures { slice_get (rows self.now) place ≡ Some result.now };
+
+    /// The row at this spot.
+    fn find(&self, spot: Spot<'_>) -> Option<&StoreRow>
+        requires sound { sound self.now }
+        requires rising { IsStrictlySortedBy store_row_cmp (rows self.now) }
+        ensures { option_map (λ row. row.now) result ≡ walk (λ row. is_eq (store_row_cmp row (row_at spot.entry))) (rows self.now) };
+
+    /// How many rows stand before this spot.
+    fn place(&self, spot: Spot<'_>) -> u64
+        requires sound { sound self.now }
+        requires rising { IsStrictlySortedBy store_row_cmp (rows self.now) }
+        ensures { result ≡ length (filter (λ row. is_lt (store_row_cmp row (row_at spot.entry))) (rows self.now)) };
+
+    /// One more owner of the same part.
+    fn share(&self) -> Result<Self, NoMemory>
+        ensures { IfOk result (λ twin. twin ≡ self.now) };
+
+    /// The part with one more row, in place of the one that it ties with. The old part stays.
+    fn with<L: Ledger>(
+        &self,
+        alloc: Global,
+        row: SharedRow,
+        steps: &mut Steps<L>,
+    ) -> Result<Grown<Self>, NoMemory>
+        requires sound { sound self.now }
+        requires rising { IsStrictlySortedBy store_row_cmp (rows self.now) }
+        ensures rows { IfOk result (λ grown. flat_map rows (parts_of grown.0 grown.1) ≡ with_one store_row_cmp (rows self.now) row) }
+        ensures grows { IfOk result (λ grown. Grows filled sound self.now grown.0 grown.1) }
+        ensures cost { steps.new ≤ steps.old + cost };
+
+    ghost is_sound: { (part : Self) → filled part → sound part };
+
+    ghost has_rows: { (part : Self) → filled part → weight ≤ length (rows part) };
+
+    ghost begins: { (part : Self) → sound part → 0 < length (rows part) };
+}
+
+impl Part for SharedRow {
+    ghost use Rattle.std.specs.Prelude.{⊤};
+
+    ghost rows = { λ row. row ∷ [] };
+
+    ghost filled = { λ row. Unit {0} };
+
+    ghost sound = { λ row. Unit {0} };
+
+    ghost weight = { 1 };
+
+    ghost cost = { 0 };
+
+    ghost is_sound = { λ part filled. tt };
+
+    ghost use Rattle.std.proofs.Common.{rules};
+
+    ghost has_rows = { λ part filled. Prim.search rules };
+
+    ghost begins = { λ part sound. Prim.search rules };
+
+    fn count(&self) -> u64 {
+        1
+    }
+
+    fn first(&self) -> &StoreRow {
+        self.row()
+    }
+
+    fn at(&self, _place: u64) -> &StoreRow {
+        self.row()
+    }
+
+    fn find(&self, spot: Spot<'_>) -> Option<&StoreRow> {
+        let row = self.row();
+        match row.spot().order(spot) {
+            Ordering::Equal => Some(row),
+            Ordering::Less => None,
+            Ordering::Greater => None,
+        }
+    }
+
+    fn place(&self, spot: Spot<'_>) -> u64 {
+        match self.row().spot().order(spot) {
+            Ordering::Less => 1,
+            Ordering::Equal => 0,
+            Ordering::Greater => 0,
+        }
+    }
+
+    fn share(&self) -> Result<SharedRow, NoMemory> {
+        self.twin()
+    }
+
+    fn with<L: Ledger>(
+        &self,
+        _alloc: Global,
+        row: SharedRow,
+        _steps: &mut Steps<L>,
+    ) -> Result<Grown<SharedRow>, NoMemory> {
+        match self.row().spot().order(row.row().spot()) {
+            Ordering::Equal => Ok((row, None)),
+            Ordering::Less => {
+                let twin = self.twin()?;
+                Ok((twin, Some(row)))
+            }
+            Ordering::Greater => {
+                let twin = self.twin()?;
+                Ok((row, Some(twin)))
+            }
+        }
+    }
+}

@@ -1,0 +1,146 @@
+//! A row with its store.
+ghost use Rattle.std.specs.Prelude.{◌≡◌, IfOk};
+ghost use Rattle.hse_rows.specs.Change.{change_of, target, FitsLimits};
+ghost use Rattle.hse_rows.specs.NormalForm.{rank};
+ghost use Rattle.hse_rows.specs.RowSets.{row_of};
+ghost use Rattle.hse_rows.specs.Newest.{row_cmp};
+ghost use Rattle.ingest_tree.specs.Rows.{row, item_of, store_row_cmp, row_at};
+
+use hse_io::NoMemory;
+use hse_rows::{ChangeRef, Row, RowRef, StoreId};
+use std::alloc::Global;
+use std::cmp::Ordering;
+use std::marker::Model;
+use std::sync::Arc;
+
+/// A row of the store with this id.
+#[derive(Drop)]
+pub struct StoreRow {
+    pub store: StoreId,
+    pub row: Row,
+}
+
+/// Where a row of this key or prefix of a store stands.
+#[derive(Clone, Copy, Debug, PartialEq, Eq)]
+pub(crate) struct Spot<'a> {
+    pub store: StoreId,
+    pub change: ChangeRef<'a>,
+}
+
+/// The key or prefix.
+fn target_of<'a>(change: ChangeRef<'a>) -> &'a [u8]
+    ensures { result.now ≡ target (change_of change.entry) }
+{
+    match change {
+        ChangeRef::Put(key, _) => key,
+        ChangeRef::Del(key) => key,
+        ChangeRef::PDel(prefix) => prefix,
+    }
+}
+
+/// 0 for a prefix delete, 1 for a change of a key.
+fn rank_of(change: ChangeRef<'_>) -> u8
+    ensures { result ≡ rank (change_of change.entry) }
+{
+    match change {
+        ChangeRef::PDel(_) => 0,
+        _ => 1,
+    }
+}
+
+/// How two changes of one store stand to each other in the order of rows.
+fn order_changes(one: ChangeRef<'_>, other: ChangeRef<'_>) -> Ordering
+    ensures { result ≡ row_cmp (row 0 (change_of one.entry)) (row 0 (change_of other.entry)) }
+{
+    match rank_of(one).cmp(&rank_of(other)) {
+        Ordering::Less => Ordering::Less,
+        Ordering::Greater => Ordering::Greater,
+        Ordering::Equal => target_of(one).cmp(target_of(other)),
+    }
+}
+
+impl<'a> Spot<'a> {
+    /// How it stands to another in the order of rows.
+    pub fn order(self, other: Spot<'_>) -> Ordering
+        ensures { result ≡ store_row_cmp (row_at self.entry) (row_at other.entry) }
+    {
+        match self.store.0.cmp(&other.store.0) {
+            Ordering::Less => Ordering::Less,
+            Ordering::Greater => Ordering::Greater,
+            Ordering::Equal => order_changes(self.change, other.change),
+        }
+    }
+}
+
+impl StoreRow {
+    /// Where it stands.
+    pub(crate) fn spot(&self) -> Spot<'_>
+        ensures store { result.store ≡ self.now.store }
+        ensures change { change_of result.change ≡ self.now.row.change }
+        ensures within { FitsLimits self.now.row.change }
+    {
+        Spot {
+            store: self.store,
+            change: self.row.change.lent(),
+        }
+    }
+
+    /// The row, with its bytes lent.
+    pub(crate) fn lent(&self) -> RowRef<'_>
+        ensures { row_of result ≡ self.now.row }
+    {
+        RowRef {
+            number: self.row.number,
+            change: self.row.change.lent(),
+        }
+    }
+}
+
+impl StoreRow {
+    /// The store's id and the row, with its bytes lent.
+    pub(crate) fn item(&self) -> (StoreId, RowRef<'_>)
+        ensures { item_of result ≡ self.now }
+    {
+        (self.store, self.lent())
+    }
+}
+
+/// A row with its store that several leaves share.
+#[derive(Drop)]
+pub(crate) struct SharedRow {
+    row: Arc<StoreRow>,
+}
+
+impl Model for SharedRow {
+    ghost use Rattle.std.specs.Arc.{arc_value};
+    ghost use Rattle.ingest_tree.specs.declared.store_row.StoreRow.{StoreRow};
+
+    ghost Value = { StoreRow };
+
+    ghost view = { λ s. arc_value s.row };
+}
+
+impl SharedRow {
+    pub fn new(alloc: Global, row: StoreRow) -> Result<SharedRow, NoMemory>
+        ensures { IfOk result (λ s. s ≡ row) }
+    {
+        Ok(SharedRow {
+            row: Arc::new(alloc, row)?,
+        })
+    }
+
+    pub fn row(&self) -> &StoreRow
+        ensures { result.now ≡ self.now }
+    {
+        &self.row
+    }
+
+    /// One more owner.
+    pub fn twin(&self) -> Result<SharedRow, NoMemory>
+        ensures { IfOk result (λ s. s ≡ self.now) }
+    {
+        Ok(SharedRow {
+            row: self.row.clone()?,
+        })
+    }
+}
