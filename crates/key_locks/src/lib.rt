@@ -1,0 +1,14 @@
+//! Which transactions and commits have keys and prefixes, and what cancels a write.
+#![tactic(auto)]
+
+mod held;
+mod locks;
+mod lock;
+mod lock_fault;
+mod logged;
+mod name;
+mod names;
+mod search;
+mod table;
+
+pub use lock_fault::LockFault;
