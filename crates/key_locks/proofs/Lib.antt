@@ -5,3 +5,5 @@ pub mod RangeLemmas
 pub mod WalkLemmas
 pub mod RangeWalk
 pub mod AboveLemmas
+pub mod StepLemmas
+pub mod MoveLemmas

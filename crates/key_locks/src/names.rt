@@ -62,4 +62,12 @@ impl Names {
     {
         self.names.contains(name)
     }
+
+    /// The names, in order.
+    pub fn into_names(self) -> Vec<Name>
+        ensures { result.items ≡ self }
+    {
+        let Names { names } = self;
+        names
+    }
 }

@@ -1,5 +1,5 @@
 //! The locks of names.
-ghost use Rattle.std.specs.Prelude.{◌≡◌, cond, OnOk, OnErr, IfOk, None, IsSome, ◌⊎◌};
+ghost use Rattle.std.specs.Prelude.{◌≡◌, ◌<◌, ◌≤◌, cond, max, OnOk, OnErr, Some, None, IsSome, ◌⊎◌};
 ghost use Rattle.std.specs.BTreeMap.{get};
 ghost use Rattle.key_locks.specs.declared.name.Name.{Name as a_name};
 ghost use Rattle.std.specs.Ordering.{is_eq};
@@ -21,12 +21,20 @@ pub(crate) fn lock_of(table: &BTreeMap<Name, Lock>, name: &Name) -> Lock
     })
 }
 
-/// Makes room for the lock of a name.
-pub(crate) fn add_lock(table: &mut BTreeMap<Name, Lock>, name: Name) -> Result<(), NoMemory>
-    ensures room { OnOk result (IsSome (get name_cmp table.new name)) }
-    ensures same { (q : a_name) → lock_at table.new q ≡ lock_at table.old q }
+/// A transaction takes a name.
+pub(crate) fn lock_name(
+    table: &mut BTreeMap<Name, Lock>,
+    name: Name,
+    txn: u64,
+) -> Result<(), NoMemory>
+    ensures newest { (q : a_name) → (lock_at table.new q).newest ≡ (lock_at table.old q).newest }
+    ensures holder { OnOk result ((q : a_name) → (lock_at table.new q).holder ≡ cond (is_eq (name_cmp name q)) (Some txn) (lock_at table.old q).holder) }
+    ensures same { OnErr result ((q : a_name) → lock_at table.new q ≡ lock_at table.old q) }
 {
-    let lock = lock_of(table, &name);
+    let lock = Lock {
+        holder: Some(txn),
+        newest: lock_of(table, &name).newest,
+    };
     table.insert(name, lock)?;
     Ok(())
 }
@@ -42,5 +50,57 @@ pub(crate) fn put_lock(table: &mut BTreeMap<Name, Lock>, name: &Name, lock: Lock
     }
     if let Some(old) = table.get_mut(name) {
         *old = lock;
+    }
+}
+
+/// A name is let go.
+pub(crate) fn free_name(table: &mut BTreeMap<Name, Lock>, name: &Name)
+    ensures newest { (q : a_name) → (lock_at table.new q).newest ≡ (lock_at table.old q).newest }
+    ensures holder { (q : a_name) → (lock_at table.new q).holder ≡ cond (is_eq (name_cmp name.now q)) None (lock_at table.old q).holder }
+{
+    let lock = lock_of(table, name);
+    put_lock(
+        table,
+        name,
+        Lock {
+            holder: None,
+            newest: lock.newest,
+        },
+    );
+}
+
+/// A name is let go, and a commit with this number wrote it.
+pub(crate) fn log_name(table: &mut BTreeMap<Name, Lock>, name: &Name, number: u64)
+    requires { lock_at table.old name.now ≡ no_lock → number ≡ 0 }
+    ensures newest { (q : a_name) → (lock_at table.new q).newest ≡ cond (is_eq (name_cmp name.now q)) (max (lock_at table.old q).newest number) (lock_at table.old q).newest }
+    ensures holder { (q : a_name) → (lock_at table.new q).holder ≡ cond (is_eq (name_cmp name.now q)) None (lock_at table.old q).holder }
+{
+    let lock = lock_of(table, name);
+    put_lock(
+        table,
+        name,
+        Lock {
+            holder: None,
+            newest: lock.newest.max(number),
+        },
+    );
+}
+
+/// A name forgets the commits up to a number, unless it has a later one.
+pub(crate) fn unlog_name(table: &mut BTreeMap<Name, Lock>, name: &Name, least: u64)
+    ensures newest { (q : a_name) → least < (lock_at table.old q).newest → (lock_at table.new q).newest ≡ (lock_at table.old q).newest }
+    ensures below { (q : a_name) → (lock_at table.new q).newest ≤ (lock_at table.old q).newest }
+    ensures holder { (q : a_name) → (lock_at table.new q).holder ≡ (lock_at table.old q).holder }
+{
+    let lock = lock_of(table, name);
+    if lock.newest <= least {
+        put_lock(
+            table,
+            name,
+            Lock {
+                holder: lock.holder,
+                newest: 0,
+            },
+        );
     }
 }
