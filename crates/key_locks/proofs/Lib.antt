@@ -7,3 +7,6 @@ pub mod RangeWalk
 pub mod AboveLemmas
 pub mod StepLemmas
 pub mod MoveLemmas
+pub mod SinceLemmas
+pub mod OverlapLemmas
+pub mod AnswerLemmas

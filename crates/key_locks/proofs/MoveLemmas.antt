@@ -20,16 +20,16 @@ unlocked l holder newest =
     let with_newest : ℕ → Lock = λ n. record { holder = None; newest = n } in
     ap with_holder holder ∙ ap with_newest newest
 
-some-same : (u v : ℕ) → Some u ≡ Some v → u ≡ v
+pub some-same : (u v : ℕ) → Some u ≡ Some v → u ≡ v
 some-same u v is = cc
 
-none-some : (u : ℕ) → None ≡ Some u → ⊥
+pub none-some : (u : ℕ) → None ≡ Some u → ⊥
 none-some u is = cc
 
-false-true : false ≡ true → ⊥
+pub false-true : false ≡ true → ⊥
 false-true is = cc
 
-is-same : (u v : ℕ) → (u == v) ≡ true → u ≡ v
+pub is-same : (u v : ℕ) → (u == v) ≡ true → u ≡ v
 is-same u v is = grind (arith, is)
 
 module _ (table new : BTreeMap Name Lock) where

@@ -3,6 +3,7 @@
 
 mod ending;
 mod held;
+mod locking;
 mod locks;
 mod lock;
 mod lock_fault;

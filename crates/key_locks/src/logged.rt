@@ -58,8 +58,8 @@ pub(crate) fn first_since(
     ensures { IsFirstSince (write_at name.now) snapshot (map logged_write logged.now.items) result }
 {
     let mut first = None;
-    let mut rest = logged.iter();
-    while let Some(entry) = rest.next() {
+    for i in 0..logged.len() {
+        let entry = &logged[i];
         if entry.number > snapshot && name.meets(&entry.name) {
             first = lesser(first, entry.number);
         }

@@ -44,7 +44,7 @@ fn own(table: &BTreeMap<Name, Lock>, name: &Name, txn: u64) -> Seen
 }
 
 /// A key of these bytes.
-fn key_of(alloc: Global, bytes: &[u8]) -> Result<Key, NoMemory>
+pub(crate) fn key_of(alloc: Global, bytes: &[u8]) -> Result<Key, NoMemory>
     requires { (0 < length bytes.now) × (length bytes.now ≤ 1344) }
     ensures { IfOk result (λ key. key ≡ bytes.now) }
 {
