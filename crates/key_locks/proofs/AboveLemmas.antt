@@ -1,5 +1,5 @@
 -- The prefixes that a name begins with, one of each length.
-use Rattle.std.proofs.Common.{◌≡◌, ◌<◌, ◌≤◌, ◌+◌, ℕ, Bool, true, false, cond, ◌==◌, ◌&&◌, Option, Some, None, List, [], ◌∷◌, length, take, refl, ap, sym, subst, zero, suc, ◌∙◌, ◌⊎◌, ⊎_elim, inl, inr, arith, rules, min}
+use Rattle.std.proofs.Common.{◌≡◌, ◌<◌, ◌≤◌, ◌+◌, ℕ, Bool, true, false, ◌==◌, List, [], ◌∷◌, length, take, refl, ap, sym, subst, zero, suc, ◌∙◌, ◌⊎◌, inl, inr, arith}
 use Rattle.std.proofs.lemmas.List.{length-take}
 use Rattle.std.specs.Prelude.{slice_index_or}
 use Rattle.std.proofs.lemmas.Bool.{cases_lt}
@@ -10,7 +10,7 @@ use Rattle.key_locks.specs.declared.lock.Lock.{Lock}
 use Rattle.key_locks.specs.declared.lock.Seen.{Seen}
 use Rattle.key_locks.specs.declared.name.Name.{Name}
 use Rattle.key_locks.specs.Table.{lock_at, no_lock}
-use Rattle.key_locks.specs.Seen.{seen_with, begins_with, IsSeen, IsOwn, IsAbove, IsMet, IsUsed, KnowsLengths}
+use Rattle.key_locks.specs.Seen.{seen_with, IsSeen, IsOwn, IsAbove, IsMet, IsUsed, KnowsLengths}
 use Rattle.key_locks.proofs.RangeLemmas.{both, and-true}
 use Rattle.key_locks.proofs.SeenLemmas.{seen-same, seen-more}
 
@@ -39,9 +39,11 @@ above-length name q above =
 
 shorter-above : (name : Name) (n : ℕ) → n ≤ length name.bytes → IsAbove name (shorter name n)
 shorter-above name n fits =
-    let size : length (take n name.bytes) ≡ n = (let is = length-take n name.bytes in omega (arith, is, fits)) in
-    (refl, and-true (name.store == name.store) (covers (take n name.bytes) name.bytes) (grind arith)
-      ((covers-is (take n name.bytes) name.bytes).1 (omega (arith, size, fits), ap (λ k. take k name.bytes) size)))
+    let size : length (take n name.bytes) ≡ n = (let is = length-take n name.bytes in omega (arith, is, fits)) in (
+      refl,
+      and-true (name.store == name.store) (covers (take n name.bytes) name.bytes) (grind arith)
+          ((covers-is (take n name.bytes) name.bytes).1 (omega (arith, size, fits), ap (λ k. take k name.bytes) size)),
+    )
 
 module _ (table : BTreeMap Name Lock) (txn : ℕ) (lengths : List Bool) (knows : KnowsLengths table lengths) (name : Name) where
   pub above-none : (seen : Seen) → IsSeen table txn (IsOwn name) seen → IsSeen table txn (IsMetUpTo name 1) seen
@@ -50,6 +52,7 @@ module _ (table : BTreeMap Name Lock) (txn : ℕ) (lengths : List Bool) (knows :
       short : (q : Name) → IsAbove name q × (length q.bytes < 1) → (lock_at table q ≡ no_lock) ⊎ IsUsed lengths (length q.bytes) → IsOwn name q ⊎ (lock_at table q ≡ no_lock)
       short q at (inl none) = inr none
       short q at (inr used) = let less = at.1 in let some = used.0 in absurd (omega (arith, less, some))
+
       back : (q : Name) → IsMetUpTo name 1 q → IsOwn name q ⊎ (lock_at table q ≡ no_lock)
       back q (inl own) = inl own
       back q (inr at) = short q at (knows q at.0.0)
@@ -60,14 +63,18 @@ module _ (table : BTreeMap Name Lock) (txn : ℕ) (lengths : List Bool) (knows :
     where
       size : length (take n name.bytes) ≡ n
       size = let is = length-take n name.bytes in omega (arith, is, fits)
+
       forth : (q : Name) → IsMetUpTo name n q → IsMetUpTo name (n + 1) q
       forth q (inl own) = inl own
       forth q (inr above) = inr (above.0, (let less = above.1 in omega (arith, less)))
+
       at : IsMetUpTo name (n + 1) (shorter name n)
       at = inr (shorter-above name n fits, omega (arith, size))
+
       by : (q : Name) → IsAbove name q → length q.bytes < n + 1 → (length q.bytes < n) ⊎ (n ≤ length q.bytes) → IsMetUpTo name n q ⊎ (q ≡ shorter name n)
       by q above most (inl less) = inl (inr (above, less))
       by q above most (inr least) = inr (same-prefix name q n above (omega (arith, most, least)))
+
       back : (q : Name) → IsMetUpTo name (n + 1) q → IsMetUpTo name n q ⊎ (q ≡ shorter name n)
       back q (inl own) = inl (inl own)
       back q (inr above) = by q above.0 above.1 (cases_lt (length q.bytes) n)
@@ -79,12 +86,15 @@ module _ (table : BTreeMap Name Lock) (txn : ℕ) (lengths : List Bool) (knows :
       forth : (q : Name) → IsMetUpTo name n q → IsMetUpTo name (n + 1) q
       forth q (inl own) = inl own
       forth q (inr above) = inr (above.0, (let less = above.1 in omega (arith, less)))
+
       last : (q : Name) → IsAbove name q → length q.bytes ≡ n → (lock_at table q ≡ no_lock) ⊎ IsUsed lengths (length q.bytes) → lock_at table q ≡ no_lock
       last q above same (inl none) = none
       last q above same (inr used) = absurd (unused (ap (λ k. slice_index_or lengths k false) (sym same) ∙ used.1) (subst (λ k. k ≤ length name.bytes) same (above-length name q above)))
+
       by : (q : Name) → IsAbove name q → length q.bytes < n + 1 → (length q.bytes < n) ⊎ (n ≤ length q.bytes) → IsMetUpTo name n q ⊎ (lock_at table q ≡ no_lock)
       by q above most (inl less) = inl (inr (above, less))
       by q above most (inr least) = inr (last q above (omega (arith, most, least)) (knows q above.0))
+
       back : (q : Name) → IsMetUpTo name (n + 1) q → IsMetUpTo name n q ⊎ (lock_at table q ≡ no_lock)
       back q (inl own) = inl (inl own)
       back q (inr above) = by q above.0 above.1 (cases_lt (length q.bytes) n)
@@ -95,6 +105,7 @@ module _ (table : BTreeMap Name Lock) (txn : ℕ) (lengths : List Bool) (knows :
       forth : (q : Name) → IsMetUpTo name n q → IsMet name q
       forth q (inl own) = inl own
       forth q (inr above) = inr above.0
+
       long : (q : Name) → IsAbove name q → (lock_at table q ≡ no_lock) ⊎ IsUsed lengths (length q.bytes) → IsMetUpTo name n q ⊎ (lock_at table q ≡ no_lock)
       long q above (inl none) = inr none
       long q above (inr used) = let within = within-of lengths (length q.bytes) used.1 in inl (inr (above, omega (arith, within, most)))
@@ -103,6 +114,7 @@ module _ (table : BTreeMap Name Lock) (txn : ℕ) (lengths : List Bool) (knows :
           within-of [] k is = absurd cc
           within-of (x ∷ xs) zero is = omega arith
           within-of (x ∷ xs) (suc k) is = let rest = within-of xs k is in omega (arith, rest)
+
       back : (q : Name) → IsMet name q → IsMetUpTo name n q ⊎ (lock_at table q ≡ no_lock)
       back q (inl own) = inl (inl own)
       back q (inr above) = long q above (knows q above.0)

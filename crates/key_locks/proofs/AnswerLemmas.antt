@@ -1,5 +1,5 @@
 -- What the locks that are met say is the answer.
-use Rattle.std.proofs.Common.{◌≡◌, ◌<◌, ◌≤◌, ◌==◌, ◌&&◌, ◌||◌, ℕ, Bool, true, false, cond, Option, Some, None, List, [], ◌∷◌, ◌++◌, length, map, take, Result, Ok, Err, OnOk, OnErr, refl, ap, sym, subst, ◌∙◌, ◌⊎◌, ⊎_elim, inl, inr, arith, rules}
+use Rattle.std.proofs.Common.{◌≡◌, ◌<◌, ◌≤◌, ◌==◌, ◌&&◌, ◌||◌, ℕ, Bool, true, false, cond, Option, Some, None, List, [], ◌∷◌, ◌++◌, length, map, take, Result, Ok, Err, OnOk, OnErr, refl, ap, sym, subst, ◌∙◌, ◌⊎◌, inl, inr, arith}
 use Rattle.std.specs.Option.{IfSome}
 use Rattle.std.specs.Ordering.{is_eq}
 use Rattle.std.specs.BTreeMap.{BTreeMap}
@@ -21,12 +21,12 @@ use Rattle.key_locks.specs.Names.{name_cmp, write_at}
 use Rattle.key_locks.specs.Seen.{IsSeen, IsMet, IsUpTo, begins_with, IsUsed, KnowsLengths}
 use Rattle.key_locks.specs.Since.{has_commit, IsFirstSince}
 use Rattle.key_locks.specs.Table.{lock_at, no_lock}
-use Rattle.key_locks.proofs.NameLemmas.{same-name, name-self}
+use Rattle.key_locks.proofs.NameLemmas.{same-name}
 use Rattle.key_locks.proofs.RangeLemmas.{both, and-true}
 use Rattle.key_locks.proofs.OverlapLemmas.{met-from, overlaps-from, some-from, some-is}
-use Rattle.key_locks.proofs.MoveLemmas.{false-true, some-same, none-some, is-same, commits-kept, lengths-kept, knows-lengths, locks-agree}
+use Rattle.key_locks.proofs.MoveLemmas.{false-true, some-same, is-same, commits-kept, lengths-kept, knows-lengths, locks-agree}
 
-or-true : (a b : Bool) → (a || b) ≡ true → (a ≡ true) ⊎ (b ≡ true)
+pub or-true : (a b : Bool) → (a || b) ≡ true → (a ≡ true) ⊎ (b ≡ true)
 or-true true b is = inl refl
 or-true false b is = inr is
 
@@ -43,6 +43,7 @@ logged-name table (e ∷ es) least write n all less has =
   where
     T : Type 0
     T = (q : Name) × ((overlaps write (write_at q) ≡ true) × (n ≤ (lock_at table q).newest))
+
     by : (has_commit write n (map logged_write es) ≡ true → (q : Name) × ((overlaps write (write_at q) ≡ true) × (n ≤ (lock_at table q).newest)))
         → (((e.number == n) && overlaps write (write_at e.name)) ≡ true) ⊎ (has_commit write n (map logged_write es) ≡ true)
         → (q : Name) × ((overlaps write (write_at q) ≡ true) × (n ≤ (lock_at table q).newest))
@@ -68,19 +69,19 @@ module _ (locks : KeyLocks) (txn : ℕ) (name : Name) (seen : Seen) (is : IsSeen
       record {
         other = w.0;
         overlapping = some-from (write_at name) (held_by locks.held u) w.1.0 (locks.agrees.holders.taken u w.1.0 w.1.1.1) (overlaps-from name w.1.0 w.1.1.0);
-        first = λ v apart some. subst (λ h. IsUpTo h v) held (met-up v apart some)
+        first = λ v apart some. subst (λ h. IsUpTo h v) held (met-up v apart some);
       }
 
   pub none-since : (snapshot : ℕ) → locks.least ≤ snapshot → seen.newest ≤ snapshot → IsFirstSince (write_at name) snapshot (commits_of locks) None
   none-since snapshot least most = record {
-      least = λ n less has.
+    least = λ n less has.
         (let q = logged-name locks.table locks.logged.items locks.least (write_at name) n locks.agrees.commits (omega (arith, least, less)) has in
         let up = is.newest q.0 (met-from name q.0 q.1.0) in let later = q.1.1 in
         absurd (omega (arith, up, later, most, less)));
-      found = tt
-    }
+    found = tt;
+  }
 
-has-last : (xs : List Name) (x q : Name) → has (xs ++ x ∷ []) q ≡ (has xs q || is_eq (name_cmp x q))
+pub has-last : (xs : List Name) (x q : Name) → has (xs ++ x ∷ []) q ≡ (has xs q || is_eq (name_cmp x q))
 has-last [] x q = by (is_eq (name_cmp x q))
   where
     by : (b : Bool) → (b || false) ≡ b
@@ -99,13 +100,14 @@ module _ (table new : BTreeMap Name Lock) (held now : BTreeMap ℕ (List Name)) 
     (free : (u : ℕ) → (lock_at table name).holder ≡ Some u → u ≡ txn) (agree : HoldersAgree table held) where
   pub taken-one : HoldersAgree new now
   taken-one = record {
-      known = λ u q at. known u q at (u == txn) refl (added u);
-      taken = λ u q is. taken u q is (is_eq (name_cmp name q)) refl (holder q)
-    }
+    known = λ u q at. known u q at (u == txn) refl (added u);
+    taken = λ u q is. taken u q is (is_eq (name_cmp name q)) refl (holder q);
+  }
     where
       old : (u : ℕ) (q : Name) → (lock_at table q).holder ≡ Some u → (b : Bool) → is_eq (name_cmp name q) ≡ b → cond b (Some txn) (lock_at table q).holder ≡ Some u
       old u q is false apart = is
       old u q is true same = ap (λ v. Some v) (sym (free u (ap (λ n. (lock_at table n).holder) (same-name name q same) ∙ is)))
+
       known : (u : ℕ) (q : Name) → has (held_by now u) q ≡ true → (b : Bool) → (u == txn) ≡ b → held_by now u ≡ cond b (held_by held u ++ name ∷ []) (held_by held u)
           → (lock_at new q).holder ≡ Some u
       known u q at false apart is = holder q ∙ old u q (agree.known u q (ap (λ l. has l q) (sym is) ∙ at)) (is_eq (name_cmp name q)) refl
@@ -115,6 +117,7 @@ module _ (table new : BTreeMap Name Lock) (held now : BTreeMap ℕ (List Name)) 
           by : (has (held_by held u) q ≡ true) ⊎ (is_eq (name_cmp name q) ≡ true) → (lock_at new q).holder ≡ Some u
           by (inl was) = holder q ∙ old u q (agree.known u q was) (is_eq (name_cmp name q)) refl
           by (inr here) = holder q ∙ ap (λ b. cond b (Some txn) (lock_at table q).holder) here ∙ ap (λ v. Some v) (sym (is-same u txn same))
+
       taken : (u : ℕ) (q : Name) → (lock_at new q).holder ≡ Some u → (b : Bool) → is_eq (name_cmp name q) ≡ b → (lock_at new q).holder ≡ cond b (Some txn) (lock_at table q).holder
           → has (held_by now u) q ≡ true
       taken u q is true same now_is =
@@ -132,6 +135,7 @@ module _ (table new : BTreeMap Name Lock) (held now : BTreeMap ℕ (List Name)) 
           first : (a b : Bool) → a ≡ true → (a || b) ≡ true
           first true b is = refl
           first false b is = absurd (false-true is)
+
           still : (b : Bool) → has (held_by held u) q ≡ true → has (cond b (held_by held u ++ name ∷ []) (held_by held u)) q ≡ true
           still true was = has-last (held_by held u) name q ∙ first (has (held_by held u) q) (is_eq (name_cmp name q)) was
           still false was = was
@@ -190,20 +194,20 @@ pub agrees-taken : {T E : Type 0} (result : Result T E) (locks : KeyLocks) (new 
     → (name.is_key ≡ false → IsUsed lengths (length name.bytes)) → ((n : ℕ) → IsUsed locks.lengths n → IsUsed lengths n)
     → Agrees new now locks.logged.items lengths locks.least
 agrees-taken (Ok done) locks new now lengths txn name newest holder held same same_held unheld used more = record {
-    holders = taken-one locks.table new locks.held now txn name holder held (free-from locks txn name unheld) locks.agrees.holders;
-    commits = commits-kept locks.table new locks.logged.items locks.least (λ q. let is = newest q in omega (arith, is)) locks.agrees.commits;
-    lengths_known = locks-agree new lengths (lengths-taken locks.table new locks.lengths lengths txn name holder newest used more
-      (knows-lengths locks.table locks.lengths locks.agrees.lengths_known))
-  }
+  holders = taken-one locks.table new locks.held now txn name holder held (free-from locks txn name unheld) locks.agrees.holders;
+  commits = commits-kept locks.table new locks.logged.items locks.least (λ q. let is = newest q in omega (arith, is)) locks.agrees.commits;
+  lengths_known = locks-agree new lengths (lengths-taken locks.table new locks.lengths lengths txn name holder newest used more
+      (knows-lengths locks.table locks.lengths locks.agrees.lengths_known));
+}
 agrees-taken (Err fault) locks new now lengths txn name newest holder held same same_held unheld used more = record {
-    holders = record {
-      known = λ u q at. same q ∙ locks.agrees.holders.known u q (ap (λ l. has l q) (sym (same_held u)) ∙ at);
-      taken = λ u q is. ap (λ l. has l q) (same_held u) ∙ locks.agrees.holders.taken u q (sym (same q) ∙ is)
-    };
-    commits = commits-kept locks.table new locks.logged.items locks.least (λ q. let is = newest q in omega (arith, is)) locks.agrees.commits;
-    lengths_known = locks-agree new lengths (λ q prefix. grow (lengths-kept locks.table new locks.lengths (λ q none. same q ∙ none) (λ q. let is = newest q in omega (arith, is))
-      (knows-lengths locks.table locks.lengths locks.agrees.lengths_known) q prefix))
-  }
+  holders = record {
+    known = λ u q at. same q ∙ locks.agrees.holders.known u q (ap (λ l. has l q) (sym (same_held u)) ∙ at);
+    taken = λ u q is. ap (λ l. has l q) (same_held u) ∙ locks.agrees.holders.taken u q (sym (same q) ∙ is);
+  };
+  commits = commits-kept locks.table new locks.logged.items locks.least (λ q. let is = newest q in omega (arith, is)) locks.agrees.commits;
+  lengths_known = locks-agree new lengths (λ q prefix. grow (lengths-kept locks.table new locks.lengths (λ q none. same q ∙ none) (λ q. let is = newest q in omega (arith, is))
+      (knows-lengths locks.table locks.lengths locks.agrees.lengths_known) q prefix));
+}
   where
     grow : {A : Type 0} {n : ℕ} → A ⊎ IsUsed locks.lengths n → A ⊎ IsUsed lengths n
     grow (inl is) = inl is

@@ -10,3 +10,4 @@ pub mod MoveLemmas
 pub mod SinceLemmas
 pub mod OverlapLemmas
 pub mod AnswerLemmas
+pub mod UndoLemmas

@@ -1,6 +1,5 @@
 -- The locks agree after each move.
-use Rattle.std.proofs.Common.{◌≡◌, ◌<◌, ◌≤◌, ◌==◌, ℕ, Bool, true, false, cond, ◌||◌, Option, Some, None, List, [], ◌∷◌, ◌++◌, length, max, map, refl, ap, sym, subst, nat_lt, is_some, ◌∙◌, ◌⊎◌, inl, inr, arith, rules}
-use Rattle.std.specs.List.{AllByRecursion}
+use Rattle.std.proofs.Common.{◌≡◌, ◌≤◌, ◌==◌, ℕ, Bool, true, false, cond, ◌||◌, Option, Some, None, List, [], ◌∷◌, ◌++◌, length, max, map, refl, ap, sym, nat_lt, is_some, ◌∙◌, ◌⊎◌, inl, inr, arith}
 use Rattle.std.specs.Ordering.{is_eq}
 use Rattle.std.specs.BTreeMap.{BTreeMap}
 use Rattle.key_locks.specs.declared.lock.Lock.{Lock}
@@ -39,9 +38,9 @@ module _ (table new : BTreeMap Name Lock) where
       (others : (u : ℕ) → held_by rest u ≡ cond (u == txn) [] (held_by held u)) (agree : HoldersAgree table held) where
     pub released : HoldersAgree new rest
     released = record {
-        known = λ u q at. known u q at (u == txn) refl (others u);
-        taken = λ u q is. taken u q is (has names q) refl (holder q)
-      }
+      known = λ u q at. known u q at (u == txn) refl (others u);
+      taken = λ u q is. taken u q is (has names q) refl (holder q);
+    }
       where
         free : (u : ℕ) (q : Name) → (lock_at table q).holder ≡ Some u → (u == txn) ≡ false → (b : Bool) → has names q ≡ b → cond b None (lock_at table q).holder ≡ Some u
         free u q is apart false at = is
@@ -49,10 +48,12 @@ module _ (table new : BTreeMap Name Lock) where
             let own = agree.known txn q (ap (λ l. has l q) (sym are) ∙ at) in
             let same = some-same u txn (sym is ∙ own) in
             absurd (false-true (sym apart ∙ (grind (arith, same))))
+
         known : (u : ℕ) (q : Name) → has (held_by rest u) q ≡ true → (b : Bool) → (u == txn) ≡ b → held_by rest u ≡ cond b [] (held_by held u) → (lock_at new q).holder ≡ Some u
         known u q at true same is = absurd (false-true (ap (λ l. has l q) (sym is) ∙ at))
         known u q at false apart is =
             holder q ∙ free u q (agree.known u q (ap (λ l. has l q) (sym is) ∙ at)) apart (has names q) refl
+
         taken : (u : ℕ) (q : Name) → (lock_at new q).holder ≡ Some u → (b : Bool) → has names q ≡ b → (lock_at new q).holder ≡ cond b None (lock_at table q).holder → has (held_by rest u) q ≡ true
         taken u q is true at now = absurd (none-some u (sym now ∙ is))
         taken u q is false at now =
@@ -77,6 +78,7 @@ module _ (table new : BTreeMap Name Lock) where
             let own = agree.known txn q (ap (λ l. has l q) (sym are) ∙ at) in
             absurd (none-some txn (ap (λ (l : Lock). l.holder) (sym is) ∙ own))
         none is false at holder newest = unlocked (lock_at new q) (holder ∙ ap (λ (l : Lock). l.holder) is) (newest ∙ ap (λ (l : Lock). l.newest) is)
+
         by : (lock_at table q ≡ no_lock) ⊎ IsUsed lengths (length q.bytes) → (lock_at new q ≡ no_lock) ⊎ IsUsed lengths (length q.bytes)
         by (inl is) = inl (none is (has names q) refl (holder q) (newest q))
         by (inr used) = inr used
@@ -123,6 +125,7 @@ knows-lengths table lengths agree q prefix = by (lock_at table q) refl
         none : (h : Option ℕ) (n : ℕ) → (is_some h || nat_lt 0 n) ≡ false → (h ≡ None) × (n ≡ 0)
         none None n is = (refl, grind (arith, is))
         none (Some u) n is = absurd cc
+
         cases : (b : Bool) → is_locked l ≡ b → (lock_at table q ≡ no_lock) ⊎ IsUsed lengths (length q.bytes)
         cases true locked = inr (agree q prefix (ap is_locked is ∙ locked))
         cases false free = let parts = none l.holder l.newest free in inl (is ∙ unlocked l parts.0 parts.1)

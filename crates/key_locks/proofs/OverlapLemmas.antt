@@ -1,6 +1,6 @@
 -- Names that are met are those whose writes overlap.
-use Rattle.std.proofs.Common.{◌≡◌, ◌==◌, ◌&&◌, ◌||◌, ℕ, Bool, true, false, cond, List, [], ◌∷◌, map, refl, ap, sym, subst, ◌∙◌, ◌⊎◌, ⊎_elim, inl, inr, arith, rules, nat_eq}
-use Rattle.std.specs.Cmp.Lexicographic.{pointwise, same_text, nat_list_eq_equiv}
+use Rattle.std.proofs.Common.{◌≡◌, ◌==◌, ◌||◌, ℕ, Bool, true, false, List, [], ◌∷◌, map, refl, ap, sym, ◌∙◌, ◌⊎◌, ⊎_elim, inl, inr, arith}
+use Rattle.std.specs.Cmp.Lexicographic.{same_text, nat_list_eq_equiv}
 use Rattle.std.specs.Ordering.{is_eq}
 use Rattle.hse_rows.specs.declared.write.Write.{Write}
 use Rattle.hse_rows.specs.Change.{covers}
@@ -9,7 +9,7 @@ use Rattle.hse_rows.specs.Overlap.{overlaps, overlaps_some}
 use Rattle.key_locks.specs.declared.name.Name.{Name}
 use Rattle.key_locks.specs.Held.{has}
 use Rattle.key_locks.specs.Names.{name_cmp, write_at}
-use Rattle.key_locks.specs.Seen.{IsOwn, IsAbove, IsMet, begins_with}
+use Rattle.key_locks.specs.Seen.{IsMet}
 use Rattle.key_locks.proofs.NameLemmas.{same-name, name-self}
 use Rattle.key_locks.proofs.RangeLemmas.{both, and-true}
 

@@ -1,8 +1,8 @@
 -- Names that begin with another stand together.
-use Rattle.std.proofs.Common.{◌≡◌, ◌<◌, ◌≤◌, ℕ, Bool, true, false, cond, ◌==◌, ◌&&◌, List, [], ◌∷◌, refl, ap, sym, ◌∙◌, ◌⊎◌, inl, inr, arith, rules}
+use Rattle.std.proofs.Common.{◌≡◌, ◌<◌, ◌≤◌, ℕ, Bool, true, false, ◌==◌, ◌&&◌, List, [], ◌∷◌, refl, ap, sym, ◌∙◌, ◌⊎◌, inl, inr, arith}
 use Rattle.std.specs.declared.cmp.Ordering.{Ordering}
 use Rattle.std.specs.declared.cmp.Ordering.TheVariants.{Less, Equal, Greater}
-use Rattle.std.specs.Ordering.{nat_cmp, bool_cmp, is_eq, is_gt, ordering_then}
+use Rattle.std.specs.Ordering.{nat_cmp, bool_cmp, is_gt, ordering_then}
 use Rattle.std.proofs.lemmas.Map.Lookups.{exact_unsigned}
 use Rattle.std.proofs.lemmas.Bool.{cases_lt}
 use Rattle.std.proofs.Common.{⊎_elim}
@@ -74,6 +74,7 @@ name-between s x y low high is =
     first-bytes Less r is = refl
     first-bytes Equal r is = refl
     first-bytes Greater r is = absurd cc
+
     by : ((s.store == y.store) ≡ true) × (covers s.bytes y.bytes ≡ true)
         → (s.store < x.store) ⊎ ((s.store ≡ x.store) × (is_gt (ordering_then (slice_cmp nat_cmp s.bytes x.bytes) (bool_cmp s.is_key x.is_key)) ≡ false))
         → (x.store < y.store) ⊎ ((x.store ≡ y.store) × (is_gt (ordering_then (slice_cmp nat_cmp x.bytes y.bytes) (bool_cmp x.is_key y.is_key)) ≡ false))
@@ -105,10 +106,12 @@ least-below s x prefix is = by (both (s.store == x.store) (covers s.bytes x.byte
     kind : (k : Bool) → is_gt (bool_cmp false k) ≡ false
     kind true = refl
     kind false = refl
+
     rest : (slice_cmp nat_cmp s.bytes x.bytes ≡ Less) ⊎ (slice_cmp nat_cmp s.bytes x.bytes ≡ Equal)
         → is_gt (ordering_then (slice_cmp nat_cmp s.bytes x.bytes) (bool_cmp s.is_key x.is_key)) ≡ false
     rest (inl less) = ap (λ o. is_gt (ordering_then o (bool_cmp s.is_key x.is_key))) less
     rest (inr same) = ap (λ o. is_gt (ordering_then o (bool_cmp s.is_key x.is_key))) same ∙ ap (λ k. is_gt (bool_cmp k x.is_key)) prefix ∙ kind x.is_key
+
     by : ((s.store == x.store) ≡ true) × (covers s.bytes x.bytes ≡ true) → is_gt (name_cmp s x) ≡ false
     by is =
         let same : Equal ≡ nat_cmp s.store x.store = nat_cmp_is s.store x.store Equal (grind (arith, is.0)) in

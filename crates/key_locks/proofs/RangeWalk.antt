@@ -1,7 +1,7 @@
 -- What a range of the table from a prefix on says of all that begins with it.
-use Rattle.std.proofs.Common.{◌≡◌, ◌<◌, ℕ, Bool, true, false, cond, not, ◌==◌, ◌&&◌, Option, Some, None, List, [], ◌∷◌, length, refl, ap, sym, subst, suc, ◌∙◌, ◌⊎◌, ⊎_elim, inl, inr, arith, rules}
+use Rattle.std.proofs.Common.{◌≡◌, ℕ, Bool, true, false, cond, ◌&&◌, Option, Some, None, List, [], ◌∷◌, refl, ap, sym, subst, suc, ◌∙◌, ◌⊎◌, ⊎_elim, inl, inr, arith}
 use Rattle.std.specs.Option.{unwrap_or}
-use Rattle.std.specs.Ordering.{is_eq, is_gt, is_le, is_lt}
+use Rattle.std.specs.Ordering.{is_eq, is_gt, is_le}
 use Rattle.std.specs.declared.cmp.Ordering.{Ordering}
 use Rattle.std.specs.declared.cmp.Ordering.TheVariants.{Less, Equal, Greater}
 use Rattle.std.specs.declared.ops.Bound.TheVariants.{Included, Unbounded}
@@ -93,12 +93,13 @@ module _ (table : BTreeMap Name Lock) (txn : ℕ) (start : Name) (prefix : start
       → IsSeen table txn (IsBelow start) seen
   range-seen es seen are all is =
       let rising : IsStrictlySortedBy name_cmp (keys_of es) =
-          subst (λ l. IsStrictlySortedBy name_cmp (keys_of l)) (sym are) (rising-filter from table.entries ordered) in
+      subst (λ l. IsStrictlySortedBy name_cmp (keys_of l)) (sym are) (rising-filter from table.entries ordered) in
       let walk = walked table txn start es (λ q. ⊥) nothing_seen rising (each-entry es all) (seen-nothing table txn) in
       seen-same table txn _ (IsBelow start) seen forth back (subst (IsSeen table txn _) (sym is) walk)
     where
       forth : (q : Name) → ⊥ ⊎ (IsIn es q × (begins_with start q ≡ true)) → IsBelow start q
       forth q (inl none) = absurd none
       forth q (inr at) = at.1
+
       back : (q : Name) → IsBelow start q → (⊥ ⊎ (IsIn es q × (begins_with start q ≡ true))) ⊎ (lock_at table q ≡ no_lock)
       back q at = ⊎_elim (λ (i : IsIn (entries_between name_cmp (Included start) Unbounded table.entries) q). inl (inr (subst (λ l. IsIn l q) (sym are) i, at))) (λ n. inr n) (locked q at)

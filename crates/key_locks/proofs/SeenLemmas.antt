@@ -1,5 +1,5 @@
 -- What one lock more says.
-use Rattle.std.proofs.Common.{◌≡◌, ◌<◌, ◌≤◌, ℕ, Bool, true, false, cond, ◌==◌, Option, Some, None, min, max, refl, ap, sym, subst, ◌∙◌, ◌⊎◌, inl, inr, arith, rules}
+use Rattle.std.proofs.Common.{◌≡◌, ◌<◌, ◌≤◌, ℕ, Bool, true, false, cond, ◌==◌, Option, Some, None, min, max, refl, ap, sym, subst, ◌∙◌, ◌⊎◌, inl, inr, arith}
 use Rattle.std.proofs.lemmas.Bool.{cases_lt}
 use Rattle.std.specs.Option.{IfSome}
 use Rattle.std.specs.BTreeMap.{BTreeMap}
@@ -56,10 +56,10 @@ module _ (table : BTreeMap Name Lock) (txn : ℕ) where
   pub seen-more : (P Q : Name → Type 0) (name : Name) (seen : Seen) → ((q : Name) → P q → Q q) → Q name → ((q : Name) → Q q → P q ⊎ (q ≡ name))
       → IsSeen table txn P seen → IsSeen table txn Q (seen_with txn seen (lock_at table name))
   seen-more P Q name seen forth at back is = record {
-      first = λ q other among held apart. first q other (back q among) held apart;
-      newest = λ q among. newest q (back q among);
-      holder = witness-more Q name at seen.holder _ refl (witness-same P Q forth seen.holder is.holder)
-    }
+    first = λ q other among held apart. first q other (back q among) held apart;
+    newest = λ q among. newest q (back q among);
+    holder = witness-more Q name at seen.holder _ refl (witness-same P Q forth seen.holder is.holder);
+  }
     where
       first : (q : Name) (other : ℕ) → P q ⊎ (q ≡ name) → (lock_at table q).holder ≡ Some other → (other ≡ txn → ⊥)
           → IsUpTo (first_other txn seen.holder (lock_at table name).holder) other
@@ -67,29 +67,31 @@ module _ (table : BTreeMap Name Lock) (txn : ℕ) where
       first q other (inr new) held apart =
           let at : (lock_at table name).holder ≡ Some other = ap (λ n. (lock_at table n).holder) (sym new) ∙ held in
           rw at (up-to-new seen.holder other apart)
+
       newest : (q : Name) → P q ⊎ (q ≡ name) → (lock_at table q).newest ≤ max seen.newest (lock_at table name).newest
       newest q (inl old) = let up = is.newest q old in omega (arith, up)
       newest q (inr new) = rw new (omega arith)
 
   pub seen-nothing : IsSeen table txn (λ q. ⊥) nothing_seen
   seen-nothing = record {
-      first = λ q other at held apart. absurd at;
-      newest = λ q at. absurd at;
-      holder = tt
-    }
+    first = λ q other at held apart. absurd at;
+    newest = λ q at. absurd at;
+    holder = tt;
+  }
 
   -- names without a lock may be left out
   pub seen-same : (P Q : Name → Type 0) (seen : Seen) → ((q : Name) → P q → Q q) → ((q : Name) → Q q → P q ⊎ (lock_at table q ≡ no_lock))
       → IsSeen table txn P seen → IsSeen table txn Q seen
   seen-same P Q seen forth back is = record {
-      first = λ q other among held apart. first q other (back q among) held apart;
-      newest = λ q among. newest q (back q among);
-      holder = witness-same P Q forth seen.holder is.holder
-    }
+    first = λ q other among held apart. first q other (back q among) held apart;
+    newest = λ q among. newest q (back q among);
+    holder = witness-same P Q forth seen.holder is.holder;
+  }
     where
       first : (q : Name) (other : ℕ) → P q ⊎ (lock_at table q ≡ no_lock) → (lock_at table q).holder ≡ Some other → (other ≡ txn → ⊥) → IsUpTo seen.holder other
       first q other (inl at) held apart = is.first q other at held apart
       first q other (inr none) held apart = let not : None ≡ Some other = ap (λ (l : Lock). l.holder) (sym none) ∙ held in absurd cc
+
       newest : (q : Name) → P q ⊎ (lock_at table q ≡ no_lock) → (lock_at table q).newest ≤ seen.newest
       newest q (inl at) = is.newest q at
       newest q (inr none) = rw none (omega arith)

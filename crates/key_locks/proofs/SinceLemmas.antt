@@ -1,7 +1,6 @@
 -- The first commit since a snapshot.
-use Rattle.std.proofs.Common.{◌≡◌, ◌<◌, ◌≤◌, ◌==◌, ◌&&◌, ◌||◌, ℕ, Bool, true, false, cond, nat_lt, Option, Some, None, List, [], ◌∷◌, length, min, drop, zero, suc, refl, ap, sym, subst, ◌∙◌, ◌⊎◌, inl, inr, arith, rules}
+use Rattle.std.proofs.Common.{◌≡◌, ◌<◌, ◌≤◌, ◌==◌, ◌&&◌, ◌||◌, ℕ, Bool, true, false, cond, nat_lt, Option, Some, None, List, [], ◌∷◌, length, min, drop, zero, suc, refl, ap, sym, subst, ◌⊎◌, inl, inr, arith}
 use Rattle.std.specs.Option.{IfSome}
-use Rattle.std.specs.List.{list_any}
 use Rattle.std.proofs.lemmas.Bool.{cases_lt}
 use Rattle.hse_rows.specs.declared.write.Write.{Write}
 use Rattle.hse_rows.specs.Overlap.{overlaps}
@@ -75,12 +74,14 @@ module _ (write : Write) (snapshot : ℕ) where
       later : (a b : Bool) → b ≡ true → (a || b) ≡ true
       later true b at = refl
       later false b at = at
+
       own : (nat_lt snapshot c.0 && overlaps write c.1) ≡ true → Found all c.0
       own is =
           let parts = both (nat_lt snapshot c.0) (overlaps write c.1) is in
           let less : snapshot < c.0 = (let is = parts.0 in grind (arith, is)) in
           let self : (c.0 == c.0) ≡ true = grind arith in
           (less, within c.0 (ap (λ b. b || has_commit write c.0 cs) (and-true (c.0 == c.0) (overlaps write c.1) self parts.1)))
+
       here : (b : Bool) → (nat_lt snapshot c.0 && overlaps write c.1) ≡ b → (first : Option ℕ) → IfSome first (Found all) → IfSome (cond b (first_of first c.0) first) (Found all)
       here false apart first found = found
       here true is None found = own is
@@ -88,9 +89,9 @@ module _ (write : Write) (snapshot : ℕ) where
 
   pub first-is : (commits : List (ℕ × Write)) (first : Option ℕ) → first ≡ first_in write snapshot None commits → IsFirstSince write snapshot commits first
   first-is commits first is = record {
-      least = λ n less has. subst (λ f. IsUpTo f n) (sym is) (least-in None commits n less has);
-      found = subst (λ f. IfSome f (Found commits)) (sym is) (found-in commits commits (λ n has. has) None tt)
-    }
+    least = λ n less has. subst (λ f. IsUpTo f n) (sym is) (least-in None commits n less has);
+    found = subst (λ f. IfSome f (Found commits)) (sym is) (found-in commits commits (λ n has. has) None tt);
+  }
 
 pub drop-past : {X : Type 0} (xs : List X) (i : ℕ) → length xs ≤ i → drop i xs ≡ []
 drop-past [] zero most = refl

@@ -1,5 +1,5 @@
 -- One name of several after the other.
-use Rattle.std.proofs.Common.{◌≡◌, ◌≤◌, ℕ, Bool, true, false, cond, ◌||◌, Option, Some, None, List, [], ◌∷◌, ◌++◌, length, max, refl, ap, sym, ◌∙◌, ◌⊎◌, inl, inr, arith, rules}
+use Rattle.std.proofs.Common.{◌≡◌, ℕ, Bool, true, false, cond, ◌||◌, Option, Some, None, List, ◌∷◌, max, refl, ap, sym, ◌∙◌, arith}
 use Rattle.std.specs.Option.{IsSome}
 use Rattle.std.specs.Ordering.{is_eq}
 use Rattle.std.specs.BTreeMap.{BTreeMap}
@@ -48,7 +48,7 @@ module _ (old new : BTreeMap Name Lock) (name : Name) (all rest : List Name) (is
           let with_holder : Option ℕ → Lock = λ h. record { holder = h; newest = (lock_at old q).newest } in
           let with_newest : ℕ → Lock = λ n. record { holder = None; newest = n } in
           let old_none : lock_at old q ≡ no_lock =
-            ap with_holder (sym holder ∙ ap (λ (l : Lock). l.holder) none) ∙ ap with_newest (sym newest ∙ ap (λ (l : Lock). l.newest) none) in
+          ap with_holder (sym holder ∙ ap (λ (l : Lock). l.holder) none) ∙ ap with_newest (sym newest ∙ ap (λ (l : Lock). l.newest) none) in
           was (ap (λ l. has l q) is ∙ ap (λ b. b || has rest q) apart ∙ at) old_none
 
 pub some-locked : (table : BTreeMap Name Lock) (q : Name) (number : ℕ) → IsSome (lock_at table q).holder → lock_at table q ≡ no_lock → number ≡ 0

@@ -1,21 +1,18 @@
 -- What the first entries that begin with a name say.
-use Rattle.std.proofs.Common.{◌≡◌, ℕ, Bool, true, false, cond, ◌==◌, ◌&&◌, Option, Some, None, List, [], ◌∷◌, refl, ap, sym, subst, ◌∙◌, ◌⊎◌, inl, inr, arith, rules}
-use Rattle.std.specs.Option.{unwrap_or}
-use Rattle.std.specs.Ordering.{is_eq, is_gt, is_le}
-use Rattle.std.specs.declared.cmp.Ordering.{Ordering}
-use Rattle.std.specs.declared.cmp.Ordering.TheVariants.{Less, Equal, Greater}
-use Rattle.std.specs.BTreeMap.{BTreeMap, is_at, get}
-use Rattle.std.specs.List.{AllByRecursion, filter}
+use Rattle.std.proofs.Common.{◌≡◌, ℕ, Bool, true, false, cond, List, [], ◌∷◌, refl, ap, sym, subst, ◌∙◌, ◌⊎◌, inl, inr}
+use Rattle.std.specs.Ordering.{is_gt}
+use Rattle.std.specs.declared.cmp.Ordering.TheVariants.{Less}
+use Rattle.std.specs.BTreeMap.{BTreeMap}
+use Rattle.std.specs.List.{AllByRecursion}
 use Rattle.std.specs.List.Sorted.{IsStrictlySortedBy}
-use Rattle.std.specs.Map.{lookup, keys_of}
+use Rattle.std.specs.Map.{keys_of}
 use Rattle.key_locks.specs.declared.lock.Lock.{Lock}
 use Rattle.key_locks.specs.declared.lock.Seen.{Seen}
 use Rattle.key_locks.specs.declared.name.Name.{Name}
 use Rattle.key_locks.specs.Names.{name_cmp}
-use Rattle.key_locks.specs.Table.{lock_at, no_lock}
+use Rattle.key_locks.specs.Table.{lock_at}
 use Rattle.key_locks.specs.Seen.{seen_with, seen_below, begins_with, IsSeen}
-use Rattle.key_locks.proofs.NameLemmas.{same-name}
-use Rattle.key_locks.proofs.RangeLemmas.{name-between, and-true}
+use Rattle.key_locks.proofs.RangeLemmas.{name-between}
 use Rattle.key_locks.proofs.SeenLemmas.{seen-same, seen-more}
 
 -- the name is one of an entry
@@ -52,6 +49,7 @@ module _ (table : BTreeMap Name Lock) (txn : ℕ) (start : Name) where
     where
       T : Name → Type 0
       T = λ q. P q ⊎ (IsIn (e ∷ es) q × (begins_with start q ≡ true))
+
       by : (b : Bool) → begins_with start e.0 ≡ b
           → ((next : Seen) → IsSeen table txn (λ q. P q ⊎ (q ≡ e.0)) next → IsSeen table txn (λ q. (P q ⊎ (q ≡ e.0)) ⊎ (IsIn es q × (begins_with start q ≡ true))) (seen_below txn start es next))
           → IsSeen table txn (λ q. P q ⊎ (IsIn (e ∷ es) q × (begins_with start q ≡ true))) (cond b (seen_below txn start es (seen_with txn seen e.1)) seen)
@@ -60,10 +58,12 @@ module _ (table : BTreeMap Name Lock) (txn : ℕ) (start : Name) where
           one : IsSeen table txn (λ q. P q ⊎ (q ≡ e.0)) (seen_with txn seen e.1)
           one = subst (λ l. IsSeen table txn (λ q. P q ⊎ (q ≡ e.0)) (seen_with txn seen l)) are.0.1
               (seen-more table txn P (λ q. P q ⊎ (q ≡ e.0)) e.0 seen (λ q old. inl old) (inr refl) (λ q is. is) is)
+
           forth : (q : Name) → (P q ⊎ (q ≡ e.0)) ⊎ (IsIn es q × (begins_with start q ≡ true)) → P q ⊎ (IsIn (e ∷ es) q × (begins_with start q ≡ true))
           forth q (inl (inl old)) = inl old
           forth q (inl (inr same)) = inr (inl (sym same), ap (begins_with start) same ∙ at)
           forth q (inr later) = inr (inr later.0, later.1)
+
           back : (q : Name) → P q ⊎ (IsIn (e ∷ es) q × (begins_with start q ≡ true)) → (P q ⊎ (q ≡ e.0)) ⊎ (IsIn es q × (begins_with start q ≡ true))
           back q (inl old) = inl (inl old)
           back q (inr (inl same, is)) = inl (inr (sym same))
@@ -72,6 +72,7 @@ module _ (table : BTreeMap Name Lock) (txn : ℕ) (start : Name) where
         where
           no : true ≡ false → ⊥
           no e = cc
+
           back : (q : Name) → P q ⊎ (IsIn (e ∷ es) q × (begins_with start q ≡ true)) → P q
           back q (inl old) = old
           back q (inr (inl same, is)) = absurd (no (sym (ap (begins_with start) same ∙ is) ∙ at))

@@ -1,9 +1,7 @@
 -- What cancels a write.
-use Rattle.std.specs.Prelude.{◌≡◌, ◌<◌, ◌≤◌, ◌==◌, ◌&&◌, ℕ, Bool, true, false, List, Option, Some, None, Result, Ok, Err}
-use Rattle.std.specs.List.{list_any}
-use Rattle.std.specs.Option.{IfSome}
+use Rattle.std.specs.Prelude.{◌≡◌, ◌≤◌, ℕ, true, false, Some, None, Result, Ok, Err}
 use Rattle.hse_rows.specs.declared.write.Write.{Write}
-use Rattle.hse_rows.specs.Overlap.{overlaps, overlaps_some}
+use Rattle.hse_rows.specs.Overlap.{overlaps_some}
 use Rattle.key_locks.specs.declared.lock_fault.LockFault.{LockFault}
 use Rattle.key_locks.specs.declared.lock_fault.LockFault.TheVariants.{Held, Since, NoMemory}
 use Rattle.key_locks.specs.declared.locks.KeyLocks.{KeyLocks}
@@ -26,4 +24,3 @@ IsAnswer locks txn snapshot write (Ok done) = IsUnheld locks txn write × IsFirs
 IsAnswer locks txn snapshot write (Err (Held holder)) = IsHolder locks txn write holder
 IsAnswer locks txn snapshot write (Err (Since number)) = IsUnheld locks txn write × IsFirstSince write snapshot (commits_of locks) (Some number)
 IsAnswer locks txn snapshot write (Err NoMemory) = Unit {0}
-

@@ -1,12 +1,10 @@
 -- Names of keys and prefixes, and the writes that they stand for.
-use Rattle.std.specs.Prelude.{ℕ, Bool, true, false, cond, List, map}
+use Rattle.std.specs.Prelude.{Bool, true, false, cond}
 use Rattle.std.specs.declared.cmp.Ordering.{Ordering}
-use Rattle.std.specs.Ordering.{eq_by_cmp}
 use Rattle.hse_rows.specs.declared.change.Change.{Change}
 use Rattle.hse_rows.specs.declared.change.Change.TheVariants.{Put, Del, PDel}
 use Rattle.hse_rows.specs.declared.store.StoreId.{StoreId}
 use Rattle.hse_rows.specs.declared.write.Write.{Write}
-use Rattle.hse_rows.specs.Overlap.{overlaps_some}
 use Rattle.key_locks.specs.declared.name.Name.{Name}
 use Rattle.key_locks.specs.contracts.name.NameOrd.TheImpl as name_ord
 use Rattle.key_locks.specs.contracts.name.NamePartialEq.TheImpl as name_partial_eq

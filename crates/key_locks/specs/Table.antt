@@ -1,5 +1,5 @@
 -- The locks of names.
-use Rattle.std.specs.Prelude.{ℕ, None}
+use Rattle.std.specs.Prelude.{None}
 use Rattle.std.specs.Option.{unwrap_or}
 use Rattle.std.specs.BTreeMap.{BTreeMap, get}
 use Rattle.key_locks.specs.declared.lock.Lock.{Lock}

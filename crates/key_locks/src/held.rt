@@ -1,6 +1,6 @@
 //! What each active transaction took.
 ghost use Rattle.std.specs.Prelude.{◌≡◌, ◌==◌, ℕ, [], ◌∷◌, ◌++◌, false, cond, length, OnOk, OnErr, MatchOption};
-ghost use Rattle.key_locks.specs.Held.{held_by};
+ghost use Rattle.key_locks.specs.Held.{has, held_by};
 
 use crate::name::Name;
 use crate::names::Names;
@@ -54,5 +54,15 @@ pub(crate) fn name_count(held: &BTreeMap<u64, Names>, txn: u64) -> u64
     match held.get(&txn) {
         Some(names) => names.len(),
         None => 0,
+    }
+}
+
+/// Whether a transaction has a name.
+pub(crate) fn has_name(held: &BTreeMap<u64, Names>, txn: u64, name: &Name) -> bool
+    ensures { result ≡ has (held_by held.now txn) name.now }
+{
+    match held.get(&txn) {
+        Some(names) => names.contains(name),
+        None => false,
     }
 }

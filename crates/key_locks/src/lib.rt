@@ -3,14 +3,15 @@
 
 mod ending;
 mod held;
-mod locking;
-mod locks;
 mod lock;
 mod lock_fault;
+mod locking;
+mod locks;
 mod logged;
 mod moves;
 mod name;
 mod names;
+mod pruning;
 mod search;
 mod table;
 

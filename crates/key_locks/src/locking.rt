@@ -98,13 +98,7 @@ fn use_length(lengths: &mut [bool; 33], name: &Name)
 
 impl KeyLocks {
     /// Whether nothing cancels a write of a name.
-    fn check(
-        &self,
-        alloc: Global,
-        txn: u64,
-        snapshot: u64,
-        name: &Name,
-    ) -> Result<(), LockFault>
+    fn check(&self, alloc: Global, txn: u64, snapshot: u64, name: &Name) -> Result<(), LockFault>
         requires { self.now.least ≤ snapshot }
         ensures { IsAnswer self.now txn snapshot (write_at name.now) result }
     {

@@ -50,11 +50,7 @@ fn lesser(first: Option<u64>, number: u64) -> Option<u64>
 }
 
 /// The first commit after a snapshot that wrote what overlaps a write of this name.
-pub(crate) fn first_since(
-    logged: &VecDeque<Logged>,
-    snapshot: u64,
-    name: &Name,
-) -> Option<u64>
+pub(crate) fn first_since(logged: &VecDeque<Logged>, snapshot: u64, name: &Name) -> Option<u64>
     ensures { IsFirstSince (write_at name.now) snapshot (map logged_write logged.now.items) result }
 {
     let mut first = None;

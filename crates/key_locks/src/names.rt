@@ -1,7 +1,6 @@
 //! The names that a transaction took, in order.
 ghost use Rattle.std.specs.Prelude.{◌≡◌, [], ◌∷◌, ◌++◌, length, OnOk, OnErr, MatchOption};
-ghost use Rattle.std.specs.List.{list_any};
-ghost use Rattle.key_locks.specs.Names.{name_eq};
+ghost use Rattle.key_locks.specs.Held.{has};
 
 use crate::name::Name;
 use hse_io::NoMemory;
@@ -58,7 +57,7 @@ impl Names {
 
     /// Whether a name is among them.
     pub fn contains(&self, name: &Name) -> bool
-        ensures { result ≡ list_any (λ other. name_eq other name.now) self.now }
+        ensures { result ≡ has self.now name.now }
     {
         self.names.contains(name)
     }

@@ -1,4 +1,4 @@
-use Rattle.std.proofs.Common.{◌≡◌, ◌≤◌, ap, sym, ◌∙◌, map, drop, length, arith}
+use Rattle.std.proofs.Common.{◌≤◌, ap, sym, ◌∙◌, map, length, arith}
 use Rattle.key_locks.specs.Logged.{logged_write}
 use Rattle.key_locks.specs.Names.{write_at}
 use Rattle.key_locks.specs.Walks.{first_in}

@@ -1,5 +1,5 @@
-use Rattle.std.proofs.Common.{◌≡◌, ap, sym, ◌∙◌, ◌∷◌, cond}
-use Rattle.key_locks.specs.Seen.{seen_below, seen_with, IsBelow, IsSeen}
+use Rattle.std.proofs.Common.{ap, sym, ◌∙◌, cond}
+use Rattle.key_locks.specs.Seen.{seen_below, seen_with}
 use Rattle.key_locks.proofs.RangeWalk.{range-seen}
 use Rattle.key_locks.proofs.search.below.Goals as goal
 

@@ -13,4 +13,4 @@ returns-clause-newest c = λ q.
     let lock : Lock = record { holder = None; newest = c.max.result } in
     part-put old c.put_lock.new.table c.args.name.now lock c.put_lock.ensures (λ (l : Lock). l.newest) q (max (lock_at old q).newest number)
     (λ same. c.max.ensures ∙ ap (λ (l : Lock). max l.newest number) c.lock_of-lock.ensures
-      ∙ ap (λ (n : Name). max (lock_at old n).newest number) (same-name c.args.name.now q same))
+    ∙ ap (λ (n : Name). max (lock_at old n).newest number) (same-name c.args.name.now q same))

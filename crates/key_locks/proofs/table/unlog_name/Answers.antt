@@ -1,4 +1,4 @@
-use Rattle.std.proofs.Common.{ap, sym, ◌∙◌, ◌≤◌, subst, arith}
+use Rattle.std.proofs.Common.{ap, ◌∙◌, arith}
 use Rattle.key_locks.specs.declared.lock.Lock.{Lock}
 use Rattle.key_locks.specs.declared.name.Name.{Name}
 use Rattle.key_locks.specs.Table.{lock_at}
@@ -12,9 +12,9 @@ returns-then-lock-least-clause-newest c = λ q less.
     let lock : Lock = record { holder = c.lock_of-lock.result.holder; newest = 0 } in
     part-kept old c.put_lock.new.table c.args.name.now lock c.put_lock.ensures (λ (l : Lock). l.newest) q
     (λ same.
-      let most = c.if-lock-least.true in
-      let is = ap (λ (l : Lock). l.newest) c.lock_of-lock.ensures ∙ ap (λ (n : Name). (lock_at old n).newest) (same-name c.args.name.now q same) in
-      absurd (omega (arith, most, is, less)))
+    let most = c.if-lock-least.true in
+    let is = ap (λ (l : Lock). l.newest) c.lock_of-lock.ensures ∙ ap (λ (n : Name). (lock_at old n).newest) (same-name c.args.name.now q same) in
+    absurd (omega (arith, most, is, less)))
 
 pub returns-then-lock-least-clause-holder : goal.returns-then-lock-least-clause-holder
 returns-then-lock-least-clause-holder c =

@@ -1,8 +1,8 @@
-use Rattle.std.proofs.Common.{◌≡◌, ◌≤◌, ◌++◌, ap, sym, subst, ◌∙◌, cond, None, map, arith, List, ℕ}
+use Rattle.std.proofs.Common.{◌++◌, ap, sym, subst, ◌∙◌, map, arith, List, ℕ}
 use Rattle.hse_rows.specs.declared.write.Write.{Write}
 use Rattle.key_locks.specs.declared.name.Name.{Name}
 use Rattle.std.proofs.lemmas.List.{map-append}
-use Rattle.key_locks.specs.Held.{has, held_by}
+use Rattle.key_locks.specs.Held.{has}
 use Rattle.key_locks.specs.Locks.{commits_of}
 use Rattle.key_locks.specs.Logged.{entries_of, logged_write}
 use Rattle.key_locks.specs.Names.{write_at}
@@ -19,16 +19,18 @@ invariant_of-self c =
     let names = c.in-Some.names in
     let number = c.args.number in
     let log = c.log_names.ensures in
-    record { agrees = record {
-      holders = released old new locks.held c.take_names.new.held c.args.txn names c.in-Some.ensures.taken log.holder c.in-Some.ensures.others locks.agrees.holders;
-      commits = subst (λ l. CommitsAgree new l locks.least) (sym log.logged) (commits-both new locks.logged.items (entries_of number names) locks.least
-        (commits-kept old new locks.logged.items locks.least
-          (λ q. let more = cond-more (has names q) (lock_at old q).newest number in let same = log.newest q in omega (arith, more, same)) locks.agrees.commits)
-        (commits-new new number locks.least names
-          (λ q at. let more = cond-number (has names q) (lock_at old q).newest number at in let same = log.newest q in omega (arith, more, same))));
-      lengths_known = locks-agree new locks.lengths (lengths-logged old new locks.held c.take_names.new.held c.args.txn names c.in-Some.ensures.taken log.holder c.in-Some.ensures.others locks.agrees.holders
-        locks.lengths number log.newest (knows-lengths old locks.lengths locks.agrees.lengths_known))
-    } }
+    record {
+      agrees = record {
+        holders = released old new locks.held c.take_names.new.held c.args.txn names c.in-Some.ensures.taken log.holder c.in-Some.ensures.others locks.agrees.holders;
+        commits = subst (λ l. CommitsAgree new l locks.least) (sym log.logged) (commits-both new locks.logged.items (entries_of number names) locks.least
+            (commits-kept old new locks.logged.items locks.least
+            (λ q. let more = cond-more (has names q) (lock_at old q).newest number in let same = log.newest q in omega (arith, more, same)) locks.agrees.commits)
+            (commits-new new number locks.least names
+            (λ q at. let more = cond-number (has names q) (lock_at old q).newest number at in let same = log.newest q in omega (arith, more, same))));
+        lengths_known = locks-agree new locks.lengths (lengths-logged old new locks.held c.take_names.new.held c.args.txn names c.in-Some.ensures.taken log.holder c.in-Some.ensures.others locks.agrees.holders
+            locks.lengths number log.newest (knows-lengths old locks.lengths locks.agrees.lengths_known));
+      };
+    }
 
 pub returns-in-Some-clause-commits : goal.returns-in-Some-clause-commits
 returns-in-Some-clause-commits c =
