@@ -6,7 +6,7 @@ use Rattle.std.specs.List.{AllByRecursion, flat_map}
 use Rattle.sorted_lists.specs.laws.Lists.{each-append, each-front, each-rest}
 use Rattle.ingest_tree.specs.declared.store_row.StoreRow.{StoreRow}
 use Rattle.ingest_tree.specs.Parts.{parts_of, Stand, Grows, IsSoundNode, IsFilledNode, IsFinished, IsInOrder}
-use Rattle.ingest_tree.specs.Filling.{all-stand, stand-all}
+use Rattle.ingest_tree.specs.laws.Filling.{all-stand, stand-all}
 
 -- the rows of the nodes that were finished
 pub finished-rows : {X : Type 0} (rows : X → List StoreRow) (first second node : List X) (other : Option (List X)) → IsFinished first second node other

@@ -1,15 +1,15 @@
 -- How many leaves a tree has.
-use Rattle.std.proofs.Common.{◌≡◌, ℕ, zero, suc, ◌+◌, ◌*◌, ◌/◌, ◌<◌, ◌≤◌, List, [], ◌∷◌, ◌++◌, length, refl, ap, sym, ◌∙◌, subst, arith, append-nil}
+use Rattle.std.proofs.Common.{◌≡◌, suc, ◌+◌, ◌*◌, ◌/◌, ◌≤◌, List, [], ◌∷◌, ◌++◌, length, refl, ap, sym, ◌∙◌, subst, arith, append-nil}
 use Rattle.std.proofs.Math.Nat.{le-div_iff_mul-le}
 use Rattle.std.proofs.lemmas.Grind.{flat_map-append}
 use Rattle.std.proofs.lemmas.List.{length-append}
 use Rattle.std.specs.List.{AllByRecursion, flat_map}
 use Rattle.sorted_lists.specs.laws.Lists.{each-append}
 use Rattle.ingest_tree.specs.declared.store_row.StoreRow.{StoreRow}
-use Rattle.ingest_tree.specs.Parts.{Stand, IsFilledNode, IsSoundNode}
-use Rattle.ingest_tree.specs.Filling.{all-rows, all-stand, stand-all, stand-sound}
+use Rattle.ingest_tree.specs.Parts.{Stand}
+use Rattle.ingest_tree.specs.laws.Filling.{all-rows, all-stand, stand-sound}
 use Rattle.ingest_tree.specs.Tree.{branch_rows, leaf_rows, leaves_of, IsFilledLeaf, IsSoundLeaf, IsFilledBranch, IsSoundBranch}
-use Rattle.ingest_tree.proofs.TreeLemmas.{leaf-sound, leaf-has, branch-sound}
+use Rattle.ingest_tree.proofs.TreeLemmas.{leaf-sound, leaf-has}
 
 flat-leaves : (root : List (List (List StoreRow))) → flat_map leaf_rows (leaves_of root) ≡ flat_map branch_rows root
 flat-leaves [] = refl

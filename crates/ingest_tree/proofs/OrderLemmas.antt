@@ -1,12 +1,10 @@
 -- The order of rows of several stores.
-use Rattle.std.proofs.Common.{◌≡◌, Bool, cond, not, List, [], ◌∷◌, refl, ap, sym, ◌∙◌}
-use Rattle.std.specs.declared.cmp.Ordering.{Ordering}
+use Rattle.std.proofs.Common.{◌≡◌, cond, not, [], ◌∷◌, ap, ◌∙◌}
 use Rattle.std.specs.declared.cmp.Ordering.TheVariants.{Less, Equal, Greater}
-use Rattle.std.specs.Ordering.{nat_cmp, is_lt, is_eq}
+use Rattle.std.specs.Ordering.{is_lt, is_eq}
 use Rattle.std.specs.Cmp.{IsTotalOrder, then_total, on_total, nat_cmp_total}
 use Rattle.std.specs.Cmp.Lexicographic.{nat_list_cmp_total}
 use Rattle.hse_rows.specs.declared.row.Row.{Row}
-use Rattle.hse_rows.specs.declared.store.StoreId.{StoreId}
 use Rattle.hse_rows.specs.Change.{target}
 use Rattle.hse_rows.specs.NormalForm.{rank}
 use Rattle.hse_rows.specs.Sorted.{placed}

@@ -1,7 +1,7 @@
 -- A tree with one more row.
-use Rattle.std.proofs.Common.{◌≡◌, ℕ, zero, suc, ◌+◌, ◌*◌, ◌/◌, ◌<◌, ◌≤◌, ◌⊎◌, inl, inr, List, [], ◌∷◌, ◌++◌, length, Some, refl, ap, sym, ◌∙◌, subst, arith}
+use Rattle.std.proofs.Common.{◌≡◌, ℕ, ◌+◌, ◌/◌, ◌≤◌, List, [], ◌∷◌, length, Some, sym, subst, arith}
 use Rattle.std.proofs.Math.Nat.{le-div_iff_mul-le}
-use Rattle.std.specs.List.{AllByRecursion, filter, flat_map}
+use Rattle.std.specs.List.{filter, flat_map}
 use Rattle.std.specs.List.Sorted.{IsStrictlySortedBy}
 use Rattle.hse_rows.specs.declared.change.Change.{Change}
 use Rattle.hse_rows.specs.Change.{FitsLimits}
@@ -11,8 +11,8 @@ use Rattle.sorted_lists.specs.laws.Orders.{each-placed, rising-replaced}
 use Rattle.ingest_tree.specs.declared.store_row.StoreRow.{StoreRow}
 use Rattle.ingest_tree.specs.Rows.{store_row_cmp}
 use Rattle.ingest_tree.specs.Lengths.{IsInUse}
-use Rattle.ingest_tree.specs.Parts.{Stand, IsFilledNode, IsSoundNode}
-use Rattle.ingest_tree.specs.Filling.{all-rows, filled-rows, filled-sound, stand-all}
+use Rattle.ingest_tree.specs.Parts.{Stand}
+use Rattle.ingest_tree.specs.laws.Filling.{all-rows, filled-rows, filled-sound}
 use Rattle.ingest_tree.specs.Tree.{AreTreeRows, branch_rows, leaf_rows, IsAnyRow, IsFilledLeaf, IsSoundLeaf, IsFilledBranch, IsSoundBranch, IsRoot}
 use Rattle.ingest_tree.proofs.OrderLemmas.{order}
 

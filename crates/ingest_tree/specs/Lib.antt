@@ -1,6 +1,10 @@
 pub mod Rows
 pub mod Parts
-pub mod Filling
+pub mod laws
 pub mod Lengths
 pub mod Tree
 pub mod Iteration
+pub mod StoreRows
+pub mod OneStore
+pub mod Covered
+pub mod Stores

@@ -1,5 +1,5 @@
 -- Parts of a tree in a row: which are filled, and which of them a row belongs to.
-use Rattle.std.specs.Prelude.{◌≡◌, ℕ, ◌<◌, ◌≤◌, suc, List, [], ◌∷◌, ◌++◌, get_or, take, drop, length, ◌+◌, Option, Some, None}
+use Rattle.std.specs.Prelude.{◌≡◌, ℕ, ◌<◌, ◌≤◌, suc, List, [], ◌∷◌, get_or, take, drop, length, ◌+◌, Option, Some, None}
 use Rattle.std.specs.List.{AllByRecursion, flat_map}
 use Rattle.std.specs.declared.cmp.Ordering.TheVariants.{Less}
 use Rattle.ingest_tree.specs.declared.store_row.StoreRow.{StoreRow}

@@ -1,5 +1,6 @@
 //! The one builder of leaves, branches and roots.
-ghost use Rattle.std.specs.Prelude.{◌≡◌, ◌≤◌, ◌<◌, ◌+◌, [], ◌∷◌, ◌++◌, length, take, drop, suc, IfOk, OnOk, vec_len};
+ghost use Rattle.std.specs.Prelude.{◌≡◌, ◌≤◌, ◌<◌, ◌+◌, [], ◌∷◌, ◌++◌};
+ghost use Rattle.std.specs.Prelude.{length, take, drop, suc, IfOk, OnOk, vec_len};
 ghost use Rattle.ingest_tree.specs.Parts.{IsInOrder, parts_of};
 
 use crate::part::{Grown, Part};

@@ -1,4 +1,5 @@
 //! Which lengths of prefixes are in use.
+ghost use Rattle.std.specs.Prelude.{◌≡◌};
 ghost use Rattle.hse_rows.specs.declared.change.Change.{Change as a_change};
 ghost use Rattle.hse_rows.specs.Change.{FitsLimits};
 ghost use Rattle.ingest_tree.specs.Lengths.{IsInUse};
@@ -14,7 +15,9 @@ pub(crate) struct Lengths {
 
 impl Lengths {
     /// Those of no prefix.
-    pub fn none() -> Lengths {
+    pub fn none() -> Lengths
+        ensures { (result.shortest ≡ 33) × (result.longest ≡ 0) }
+    {
         Lengths {
             shortest: 33,
             longest: 0,
@@ -24,7 +27,8 @@ impl Lengths {
     /// With those of one change more.
     pub fn with(self, change: &Change) -> Lengths
         ensures row { IsInUse result.shortest result.longest change.now }
-        ensures older { (other : a_change) → IsInUse self.shortest self.longest other → IsInUse result.shortest result.longest other }
+        ensures older { (other : a_change) → IsInUse self.shortest self.longest other
+            → IsInUse result.shortest result.longest other }
         ensures within { FitsLimits change.now }
     {
         let _lent = change.lent();

@@ -1,12 +1,8 @@
 //! A leaf or a branch: parts in a row, which several owners share.
 ghost use Rattle.std.specs.Prelude.{◌≡◌, ◌≤◌, ◌<◌, ◌+◌, ◌*◌, ◌^◌, [], ◌∷◌, length, take, IfOk};
 ghost use Rattle.std.specs.List.{flat_map};
-ghost use Rattle.std.specs.List.{filter, find as walk};
-ghost use Rattle.std.specs.List.Sorted.{IsStrictlySortedBy};
 ghost use Rattle.std.specs.Option.{option_map};
-ghost use Rattle.std.specs.Ordering.{is_lt, is_eq};
-ghost use Rattle.sorted_lists.specs.Places.{with_one};
-ghost use Rattle.ingest_tree.specs.Rows.{store_row_cmp, row_at};
+ghost use Rattle.ingest_tree.specs.Rows.{AreRising, row_at, rows_with, found_at, count_before};
 ghost use Rattle.ingest_tree.specs.Parts.{Stand, IsFinished, IsOver, parts_of};
 
 use crate::builder::{Builder, rebuilt};
@@ -84,7 +80,8 @@ impl<T: Part> Node<T> {
 
 /// The node or the two nodes that the builder's parts make.
 fn finished<T: Part>(alloc: Global, builder: Builder<T>) -> Result<Grown<Node<T>>, NoMemory>
-    ensures { IfOk result (λ grown. IsFinished builder.first.items builder.second.items grown.0 grown.1) }
+    ensures { IfOk result (λ grown.
+        IsFinished builder.first.items builder.second.items grown.0 grown.1) }
 {
     let Builder {
         first,
@@ -145,7 +142,7 @@ impl<T: Part> Part for Node<T> {
     ghost use Rattle.std.specs.List.{flat_map};
     ghost use Rattle.std.specs.Prelude.{◌*◌, ◌+◌};
     ghost use Rattle.ingest_tree.specs.Parts.{IsSoundNode, IsFilledNode};
-    ghost use Rattle.ingest_tree.specs.Filling.{filled-sound, filled-rows, sound-begins};
+    ghost use Rattle.ingest_tree.specs.laws.Filling.{filled-sound, filled-rows, sound-begins};
 
     ghost rows = { λ node. flat_map T.rows node };
 
@@ -229,8 +226,9 @@ pub(crate) fn root_with<T: Part, L: Ledger>(
     steps: &mut Steps<L>,
 ) -> Result<Node<T>, NoMemory>
     requires stands { Stand T.filled T.sound root.now }
-    requires rising { IsStrictlySortedBy store_row_cmp (flat_map T.rows root.now) }
-    ensures rows { IfOk result (λ node. flat_map T.rows node ≡ with_one store_row_cmp (flat_map T.rows root.now) row) }
+    requires rising { AreRising (flat_map T.rows root.now) }
+    ensures rows { IfOk result (λ node. flat_map T.rows node
+        ≡ rows_with (flat_map T.rows root.now) row) }
     ensures stands { IfOk result (λ node. Stand T.filled T.sound node) }
     ensures cost { steps.new ≤ steps.old + (T.cost + (length root.now + 1)) }
 {
@@ -248,9 +246,9 @@ impl<T: Part> Node<T> {
     /// The row at this spot, where there may be any number of parts.
     pub fn find_in(&self, spot: Spot<'_>) -> Option<&StoreRow>
         requires stands { Stand T.filled T.sound self.now }
-        requires rising { IsStrictlySortedBy store_row_cmp (flat_map T.rows self.now) }
+        requires rising { AreRising (flat_map T.rows self.now) }
         ensures { option_map (λ row. row.now) result
-            ≡ walk (λ row. is_eq (store_row_cmp row (row_at spot.entry))) (flat_map T.rows self.now) }
+            ≡ found_at (row_at spot.entry) (flat_map T.rows self.now) }
     {
         let parts = self.parts();
         parts[child_at(parts, spot)].find(spot)
@@ -259,8 +257,8 @@ impl<T: Part> Node<T> {
     /// How many rows stand before this spot, where there may be any number of parts.
     pub fn place_in(&self, spot: Spot<'_>) -> u64
         requires stands { Stand T.filled T.sound self.now }
-        requires rising { IsStrictlySortedBy store_row_cmp (flat_map T.rows self.now) }
-        ensures { result ≡ length (filter (λ row. is_lt (store_row_cmp row (row_at spot.entry))) (flat_map T.rows self.now)) }
+        requires rising { AreRising (flat_map T.rows self.now) }
+        ensures { result ≡ count_before (row_at spot.entry) (flat_map T.rows self.now) }
     {
         let _all = self.count;
         let parts = self.parts();

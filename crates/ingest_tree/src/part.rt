@@ -1,12 +1,10 @@
 //! A part of the tree: a row, a leaf or a branch.
-ghost use Rattle.std.specs.Prelude.{◌≡◌, ◌≤◌, ◌<◌, ◌+◌, ◌*◌, ℕ, List, [], ◌∷◌, length, slice_get, Some, IfOk};
-ghost use Rattle.std.specs.List.{flat_map, filter, find as walk};
-ghost use Rattle.std.specs.List.Sorted.{IsStrictlySortedBy};
+ghost use Rattle.std.specs.Prelude.{◌≡◌, ◌≤◌, ◌<◌, ◌+◌, ◌*◌, ℕ};
+ghost use Rattle.std.specs.Prelude.{List, [], ◌∷◌, length, slice_get, Some, IfOk};
+ghost use Rattle.std.specs.List.{flat_map};
 ghost use Rattle.std.specs.Option.{option_map};
-ghost use Rattle.std.specs.Ordering.{is_lt, is_eq};
-ghost use Rattle.sorted_lists.specs.Places.{with_one};
 ghost use Rattle.ingest_tree.specs.declared.store_row.StoreRow.{StoreRow as a_row};
-ghost use Rattle.ingest_tree.specs.Rows.{store_row_cmp, row_at};
+ghost use Rattle.ingest_tree.specs.Rows.{AreRising, row_at, rows_with, found_at, count_before};
 ghost use Rattle.ingest_tree.specs.Parts.{parts_of, Grows};
 
 use crate::steps::Steps;
@@ -53,14 +51,15 @@ pub(crate) trait Part: Drop + Sized {
     /// The row at this spot.
     fn find(&self, spot: Spot<'_>) -> Option<&StoreRow>
         requires sound { sound self.now }
-        requires rising { IsStrictlySortedBy store_row_cmp (rows self.now) }
-        ensures { option_map (λ row. row.now) result ≡ walk (λ row. is_eq (store_row_cmp row (row_at spot.entry))) (rows self.now) };
+        requires rising { AreRising (rows self.now) }
+        ensures { option_map (λ row. row.now) result
+            ≡ found_at (row_at spot.entry) (rows self.now) };
 
     /// How many rows stand before this spot.
     fn place(&self, spot: Spot<'_>) -> u64
         requires sound { sound self.now }
-        requires rising { IsStrictlySortedBy store_row_cmp (rows self.now) }
-        ensures { result ≡ length (filter (λ row. is_lt (store_row_cmp row (row_at spot.entry))) (rows self.now)) };
+        requires rising { AreRising (rows self.now) }
+        ensures { result ≡ count_before (row_at spot.entry) (rows self.now) };
 
     /// One more owner of the same part.
     fn share(&self) -> Result<Self, NoMemory>
@@ -74,8 +73,9 @@ pub(crate) trait Part: Drop + Sized {
         steps: &mut Steps<L>,
     ) -> Result<Grown<Self>, NoMemory>
         requires sound { sound self.now }
-        requires rising { IsStrictlySortedBy store_row_cmp (rows self.now) }
-        ensures rows { IfOk result (λ grown. flat_map rows (parts_of grown.0 grown.1) ≡ with_one store_row_cmp (rows self.now) row) }
+        requires rising { AreRising (rows self.now) }
+        ensures rows { IfOk result (λ grown. flat_map rows (parts_of grown.0 grown.1)
+            ≡ rows_with (rows self.now) row) }
         ensures grows { IfOk result (λ grown. Grows filled sound self.now grown.0 grown.1) }
         ensures cost { steps.new ≤ steps.old + cost };
 

@@ -5,6 +5,7 @@ ghost use Rattle.hse_rows.specs.NormalForm.{rank};
 ghost use Rattle.hse_rows.specs.RowSets.{row_of};
 ghost use Rattle.hse_rows.specs.Newest.{row_cmp};
 ghost use Rattle.ingest_tree.specs.Rows.{row, item_of, store_row_cmp, row_at};
+ghost use Rattle.ingest_tree.specs.StoreRows.{first_at};
 
 use hse_io::NoMemory;
 use hse_rows::{ChangeRef, Row, RowRef, StoreId};
@@ -20,10 +21,10 @@ pub struct StoreRow {
     pub row: Row,
 }
 
-/// Where a row of this key or prefix of a store stands.
+/// Where a row of this key or prefix of the store of this id stands.
 #[derive(Clone, Copy, Debug, PartialEq, Eq)]
 pub(crate) struct Spot<'a> {
-    pub store: StoreId,
+    pub id: u128,
     pub change: ChangeRef<'a>,
 }
 
@@ -60,11 +61,21 @@ fn order_changes(one: ChangeRef<'_>, other: ChangeRef<'_>) -> Ordering
 }
 
 impl<'a> Spot<'a> {
+    /// Before all rows of a store.
+    pub fn before(id: u128) -> Spot<'a>
+        ensures { row_at result ≡ first_at id }
+    {
+        Spot {
+            id,
+            change: ChangeRef::PDel(&[]),
+        }
+    }
+
     /// How it stands to another in the order of rows.
     pub fn order(self, other: Spot<'_>) -> Ordering
         ensures { result ≡ store_row_cmp (row_at self.entry) (row_at other.entry) }
     {
-        match self.store.0.cmp(&other.store.0) {
+        match self.id.cmp(&other.id) {
             Ordering::Less => Ordering::Less,
             Ordering::Greater => Ordering::Greater,
             Ordering::Equal => order_changes(self.change, other.change),
@@ -75,12 +86,12 @@ impl<'a> Spot<'a> {
 impl StoreRow {
     /// Where it stands.
     pub(crate) fn spot(&self) -> Spot<'_>
-        ensures store { result.store ≡ self.now.store }
+        ensures store { (row_at result).store ≡ self.now.store }
         ensures change { change_of result.change ≡ self.now.row.change }
         ensures within { FitsLimits self.now.row.change }
     {
         Spot {
-            store: self.store,
+            id: self.store.0 as u128,
             change: self.row.change.lent(),
         }
     }

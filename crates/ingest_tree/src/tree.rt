@@ -1,13 +1,12 @@
 //! Rows of several stores in a tree of shared leaves and branches.
-ghost use Rattle.std.specs.Prelude.{◌≡◌, ◌≤◌, ◌+◌, ◌*◌, ◌/◌, ◌<◌, [], ◌∷◌, length, reverse, slice_get, Some, IfOk};
-ghost use Rattle.std.specs.List.{filter, find as walk};
-ghost use Rattle.std.specs.List.Sorted.{IsStrictlySortedBy};
+ghost use Rattle.std.specs.Prelude.{◌≡◌, ◌≤◌, ◌+◌, ◌*◌, ◌/◌, ◌<◌};
+ghost use Rattle.std.specs.Prelude.{[], ◌∷◌, length, reverse, slice_get, Some, IfOk};
 ghost use Rattle.std.specs.Option.{option_map};
-ghost use Rattle.std.specs.Ordering.{is_eq, is_lt};
-ghost use Rattle.sorted_lists.specs.Places.{with_one};
-ghost use Rattle.hse_rows.specs.Meaning.{own_at};
+ghost use Rattle.hse_rows.specs.Meaning.{own_at, covered_at, greater as greatest_of};
 ghost use Rattle.hse_rows.specs.RowSets.{row_by};
-ghost use Rattle.ingest_tree.specs.Rows.{store_row, store_row_cmp, rows_in, row_at};
+ghost use Rattle.ingest_tree.specs.Rows.{AreRising, store_row, rows_in, row_at};
+ghost use Rattle.ingest_tree.specs.Rows.{rows_with, found_at, count_before};
+ghost use Rattle.ingest_tree.specs.declared.store_row.StoreRow.{StoreRow as a_row};
 ghost use Rattle.ingest_tree.specs.Iteration.{left_of};
 ghost use Rattle.ingest_tree.specs.Parts.{Stand};
 ghost use Rattle.ingest_tree.specs.Tree.{AreRowsOfStores, IsFilledBranch, IsSoundBranch, leaves_of};
@@ -18,11 +17,12 @@ use crate::node::{Branch, Node, lone, root_with};
 use crate::part::Part;
 use crate::steps::Steps;
 use crate::store_row::{SharedRow, Spot, StoreRow};
+use crate::store_rows::StoreRows;
 use hse_io::NoMemory;
 use hse_rows::{ChangeRef, Row, RowRef, StoreId};
 use std::alloc::Global;
-use std::marker::Model;
-use std::sync::ledger::Ledger;
+use std::marker::{Brand, Model};
+use std::sync::ledger::{Blank, Ledger};
 
 /// Rows of several stores, each key and each prefix of a store once. Trees share their leaves and
 /// branches.
@@ -72,6 +72,24 @@ fn leaf_count(root: &Node<Branch>) -> u64
     count
 }
 
+/// The greater of a number and that of a row, each of which may be there.
+fn greater(one: Option<u64>, row: Option<&StoreRow>) -> Option<u64>
+    ensures { result ≡ greatest_of one
+        (option_map (λ (row : a_row). row.row.number) (option_map (λ row. row.now) row.entry)) }
+{
+    match (one, row) {
+        (one, None) => one,
+        (None, Some(row)) => Some(row.row.number),
+        (Some(number), Some(row)) => {
+            if row.row.number < number {
+                one
+            } else {
+                Some(row.row.number)
+            }
+        }
+    }
+}
+
 impl IngestTree {
     /// A tree without rows. It takes no memory.
     pub fn empty() -> IngestTree
@@ -118,7 +136,7 @@ impl IngestTree {
         row: Row,
         steps: &mut Steps<L>,
     ) -> Result<IngestTree, NoMemory>
-        ensures rows { IfOk result (λ tree. tree ≡ with_one store_row_cmp self.now (store_row store row)) }
+        ensures rows { IfOk result (λ tree. tree ≡ rows_with self.now (store_row store row)) }
         ensures cost { steps.new ≤ steps.old + (260 + length self.now / 4096) }
     {
         let lengths = self.lengths.with(&row.change);
@@ -141,11 +159,35 @@ impl IngestTree {
         }
     }
 
+    /// The same, where the steps are counted from a blank on.
+    fn with_from<L: Ledger>(
+        &self,
+        alloc: Global,
+        store: StoreId,
+        row: Row,
+        blank: Blank,
+    ) -> Result<IngestTree, NoMemory>
+        requires name { blank.name ≡ L.name }
+        requires parts { blank.parts ≡ L.parts }
+        requires some { 0 < L.parts }
+        ensures { IfOk result (λ tree. tree ≡ rows_with self.now (store_row store row)) }
+    {
+        let mut steps = Steps::<L>::new(blank);
+        self.with(alloc, store, row, &mut steps)
+    }
+
+    /// The same for whoever does not count steps.
+    pub fn with_row(&self, alloc: Global, store: StoreId, row: Row) -> Result<IngestTree, NoMemory>
+        ensures { IfOk result (λ tree. tree ≡ rows_with self.now (store_row store row)) }
+    {
+        self.with_from::<Brand>(alloc, store, row, Blank::new(1))
+    }
+
     /// The row at a spot.
     pub(crate) fn find(&self, spot: Spot<'_>) -> Option<&StoreRow>
-        ensures rising { IsStrictlySortedBy store_row_cmp self.now }
+        ensures rising { AreRising self.now }
         ensures row { option_map (λ row. row.now) result
-            ≡ walk (λ row. is_eq (store_row_cmp row (row_at spot.entry))) self.now }
+            ≡ found_at (row_at spot.entry) self.now }
     {
         match &self.root {
             None => None,
@@ -158,7 +200,7 @@ impl IngestTree {
         ensures { row_by result ≡ own_at key.now (rows_in store.0 self.now) }
     {
         match self.find(Spot {
-            store,
+            id: store.0 as u128,
             change: ChangeRef::Del(key),
         }) {
             None => None,
@@ -191,7 +233,7 @@ impl IngestTree {
     /// How many rows stand before a spot.
     pub(crate) fn place(&self, spot: Spot<'_>) -> u64
         ensures rows { AreRowsOfStores self.now }
-        ensures count { result ≡ length (filter (λ row. is_lt (store_row_cmp row (row_at spot.entry))) self.now) }
+        ensures count { result ≡ count_before (row_at spot.entry) self.now }
     {
         match &self.root {
             None => 0,
@@ -199,8 +241,8 @@ impl IngestTree {
         }
     }
 
-    /// All rows, by store id and then prefix deletes by prefix and changes of keys by key. It takes no
-    /// memory.
+    /// All rows, by store id and then prefix deletes by prefix and changes of keys by key. It takes
+    /// no memory.
     pub fn iter(&self) -> IngestIter<'_>
         ensures { left_of result ≡ self.now }
     {
@@ -222,5 +264,32 @@ impl IngestTree {
             last: self.len(),
             back: true,
         }
+    }
+
+    /// The greatest number of a prefix delete of the store that covers the key, by a search for
+    /// each length in use. It takes no memory.
+    pub fn covered(&self, store: StoreId, key: &[u8]) -> Option<u64>
+        ensures { result ≡ covered_at key.now (rows_in store.0 self.now) }
+    {
+        let end = key.len().min(self.lengths.longest as usize) + 1;
+        let mut greatest: Option<u64> = None;
+        let mut length = self.lengths.shortest as usize;
+        while length < end {
+            let (prefix, _) = key.split_at(length);
+            let found = self.find(Spot {
+                id: store.0 as u128,
+                change: ChangeRef::PDel(prefix),
+            });
+            greatest = greater(greatest, found);
+            length += 1;
+        }
+        greatest
+    }
+
+    /// The rows of a store, which share the tree.
+    pub fn rows(&self, alloc: Global, store: StoreId) -> Result<StoreRows, NoMemory>
+        ensures { IfOk result (λ rows. rows ≡ rows_in store.0 self.now) }
+    {
+        Ok(StoreRows::of(self.share(alloc)?, store))
     }
 }

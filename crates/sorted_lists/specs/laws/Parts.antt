@@ -1,6 +1,6 @@
 -- Laws of lists in order that are joined and cut: parts in a row, the list up to a place and from there on, and what
 -- a walk finds.
-use Rattle.std.proofs.Common.{◌≡◌, ℕ, zero, suc, ◌<◌, Bool, true, false, true≢false, cond, not, List, [], ◌∷◌, ◌++◌, length, get_or, take, drop, Some, None, refl, ap, sym, ◌∙◌, arith}
+use Rattle.std.proofs.Common.{◌≡◌, ℕ, zero, suc, ◌<◌, Bool, true, false, true≢false, cond, not, List, [], ◌∷◌, ◌++◌, length, get_or, take, drop, Some, None, refl, ap, sym, ◌∙◌, subst, arith}
 use Rattle.std.specs.declared.cmp.Ordering.{Ordering}
 use Rattle.std.specs.declared.cmp.Ordering.TheVariants.{Less, Equal, Greater}
 use Rattle.std.specs.Ordering.{is_lt, is_eq, is_gt, ordering_reverse}
@@ -223,3 +223,25 @@ module _ {X : Type 0} {R : X → X → Ordering} (o : IsTotalOrder R) where
 
   pub without-missing : (xs : List X) (x : X) → AllByRecursion (λ y. is_eq (R x y) ≡ false) xs → without R xs x ≡ xs
   without-missing xs x apart = filter-all (is_apart R x) xs (each-weaker (λ y no. ap not no) xs apart)
+
+  not-less : (x y z : X) (r : Ordering) → R y z ≡ Less → R z x ≡ r → is_lt (R y x) ≡ false → is_lt r ≡ false
+  not-less x y z Less less is above = absurd (true≢false (sym (ap is_lt (o.trans y z x less is)) ∙ above))
+  not-less x y z Equal less is above = refl
+  not-less x y z Greater less is above = refl
+
+  -- the place of x is the number of elements below it
+  pub cut-counted : (xs : List X) (x : X) → IsStrictlySortedBy R xs → IsCut xs x (length (filter (λ y. is_lt (R y x)) xs))
+  unfolding IsStrictlySortedBy
+  cut-counted [] x rise = record { below = tt; rest = tt }
+  cut-counted (y ∷ ys) x rise = by (R y x) refl (cut-counted ys x rise.1)
+    where
+      none : is_lt (R y x) ≡ false → IsCut (y ∷ ys) x (length (filter (λ z. is_lt (R z x)) ys))
+      none above =
+          let rest = each-weaker (λ z less. not-less x y z (R z x) less refl above) ys rise.0 in
+          subst (IsCut (y ∷ ys) x) (sym (ap length (filter-none (λ z. is_lt (R z x)) ys rest))) (record { below = tt; rest = (above, rest) })
+
+      by : (r : Ordering) → R y x ≡ r → IsCut ys x (length (filter (λ z. is_lt (R z x)) ys))
+          → IsCut (y ∷ ys) x (length (cond (is_lt r) (y ∷ filter (λ z. is_lt (R z x)) ys) (filter (λ z. is_lt (R z x)) ys)))
+      by Less is more = record { below = (is, more.below); rest = more.rest }
+      by Equal is more = none (ap is_lt is)
+      by Greater is more = none (ap is_lt is)

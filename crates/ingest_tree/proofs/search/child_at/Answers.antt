@@ -1,7 +1,7 @@
-use Rattle.std.proofs.Common.{◌≡◌, ◌<◌, ◌≤◌, ◌+◌, ◌-◌, ◌/◌, subst, sym, ◌∙◌, arith, length}
+use Rattle.std.proofs.Common.{◌+◌, ◌-◌, ◌/◌, subst, sym, ◌∙◌, arith}
 use Rattle.sorted_lists.specs.laws.Lists.{each-at}
 use Rattle.ingest_tree.specs.Rows.{row_at}
-use Rattle.ingest_tree.proofs.PartLemmas.{IsWithin, one-within, narrowed-behind, narrowed-before}
+use Rattle.ingest_tree.proofs.PartLemmas.{one-within, narrowed-behind, narrowed-before}
 use Rattle.ingest_tree.proofs.search.child_at.Goals as goal
 
 pub loop-high-preserved-then-begins_behind : goal.loop-high-preserved-then-begins_behind

@@ -1,4 +1,4 @@
-use Rattle.std.proofs.Common.{ℕ, ◌-◌}
+use Rattle.std.proofs.Common.{◌-◌}
 use Rattle.ingest_tree.specs.Rows.{row_at}
 use Rattle.ingest_tree.proofs.PartLemmas.{IsWithin}
 use Rattle.ingest_tree.proofs.search.child_at.Given as goal

@@ -1,5 +1,4 @@
-use Rattle.std.proofs.Common.{◌≡◌, ◌-◌, List, ap, sym, ◌∙◌, Some}
-use Rattle.std.specs.List.{slice_get}
+use Rattle.std.proofs.Common.{ap, sym, ◌∙◌, Some}
 use Rattle.ingest_tree.specs.Rows.{item_of}
 use Rattle.ingest_tree.proofs.RangeLemmas.{less-from, walk-first, walk-last}
 use Rattle.ingest_tree.proofs.iter.IngestIterIterator.next.Goals as goal

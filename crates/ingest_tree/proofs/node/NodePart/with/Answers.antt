@@ -1,11 +1,11 @@
-use Rattle.std.proofs.Common.{◌≡◌, ◌++◌, List, take, drop, suc, length, get_or, ap, sym, ◌∙◌, subst, Result, Ok, Err}
-use Rattle.std.specs.List.{flat_map, filter}
+use Rattle.std.proofs.Common.{ap, sym, ◌∙◌, subst}
+use Rattle.std.specs.List.{flat_map}
 use Rattle.std.specs.List.Sorted.{IsStrictlySortedBy}
 use Rattle.std.proofs.lemmas.Result.{IfOk-weaker}
 use Rattle.sorted_lists.specs.Places.{with_one}
 use Rattle.ingest_tree.specs.declared.store_row.StoreRow.{StoreRow}
 use Rattle.ingest_tree.specs.Rows.{store_row_cmp, row_at}
-use Rattle.ingest_tree.specs.Parts.{parts_of, Grows, IsFinished, IsFilledNode, IsSoundNode, IsChild}
+use Rattle.ingest_tree.specs.Parts.{parts_of, Grows, IsFilledNode, IsSoundNode, IsChild}
 use Rattle.ingest_tree.proofs.PartLemmas.{rising-part, with-grown, child-alike}
 use Rattle.ingest_tree.proofs.GrowthLemmas.{finished-rows, node-grows}
 use Rattle.ingest_tree.proofs.node.NodePart.with.Goals as goal

@@ -1,6 +1,6 @@
-use Rattle.std.proofs.Common.{◌≡◌, [], ◌∷◌, ap, sym, ◌∙◌}
+use Rattle.std.proofs.Common.{[], ◌∷◌, ap, sym, ◌∙◌}
 use Rattle.ingest_tree.specs.declared.store_row.StoreRow.{StoreRow}
-use Rattle.ingest_tree.specs.Rows.{store_row_cmp, row_at}
+use Rattle.ingest_tree.specs.Rows.{row_at}
 use Rattle.ingest_tree.proofs.OrderLemmas.{alike, with_tied, with_above, with_below}
 use Rattle.ingest_tree.proofs.part.SharedRowPart.with.Goals as goal
 

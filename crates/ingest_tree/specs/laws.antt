@@ -1,0 +1,2 @@
+-- What holds of the definitions, for proofs.
+pub mod Filling

@@ -1,0 +1,5 @@
+//! Tests of the parts in memory over their public calls.
+#![tactic(auto)]
+
+#[cfg(test)]
+mod ingest_trees;
