@@ -3,3 +3,5 @@
 
 #[cfg(test)]
 mod ingest_trees;
+#[cfg(test)]
+mod locks;
