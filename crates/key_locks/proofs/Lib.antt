@@ -11,3 +11,4 @@ pub mod SinceLemmas
 pub mod OverlapLemmas
 pub mod AnswerLemmas
 pub mod UndoLemmas
+pub mod PutLemmas

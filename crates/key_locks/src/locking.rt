@@ -2,6 +2,7 @@
 ghost use Rattle.std.specs.Prelude.{◌≡◌, ◌==◌, ◌<◌, ◌≤◌, ◌++◌, ◌∷◌, ℕ, [], cond, false, length, Some, IfOk, OnOk, OnErr};
 ghost use Rattle.std.specs.Ordering.{is_eq};
 ghost use Rattle.key_locks.specs.declared.name.Name.{Name as a_name};
+ghost use Rattle.hse_rows.specs.Change.{write_of};
 ghost use Rattle.key_locks.specs.Answers.{IsAnswer};
 ghost use Rattle.key_locks.specs.Held.{held_by};
 ghost use Rattle.key_locks.specs.Locks.{commits_of, locked, spare_of, writes_of};
@@ -127,7 +128,7 @@ impl KeyLocks {
         change: &Change,
     ) -> Result<(), LockFault>
         requires { self.old.least ≤ snapshot }
-        ensures answer { IsAnswer self.old txn snapshot (locked store change.now) result }
+        ensures answer { IsAnswer self.old txn snapshot (write_of store change.now) result }
         ensures writes { OnOk result ((other : ℕ) → writes_of self.new other
             ≡ cond (other == txn) (writes_of self.old other ++ locked store change.now ∷ []) (writes_of self.old other)) }
         ensures same { OnErr result ((other : ℕ) → writes_of self.new other ≡ writes_of self.old other) }
