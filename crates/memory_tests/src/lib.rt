@@ -4,6 +4,8 @@
 #[cfg(test)]
 mod ingest_trees;
 #[cfg(test)]
+mod locks;
+#[cfg(test)]
 mod merges;
 #[cfg(test)]
 mod trees;

@@ -1,0 +1,14 @@
+pub mod NameLemmas
+pub mod TableLemmas
+pub mod SeenLemmas
+pub mod RangeLemmas
+pub mod WalkLemmas
+pub mod RangeWalk
+pub mod AboveLemmas
+pub mod StepLemmas
+pub mod MoveLemmas
+pub mod SinceLemmas
+pub mod OverlapLemmas
+pub mod AnswerLemmas
+pub mod UndoLemmas
+pub mod PutLemmas

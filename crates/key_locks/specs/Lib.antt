@@ -1,0 +1,10 @@
+pub mod Held
+pub mod Logged
+pub mod Names
+pub mod Since
+pub mod Seen
+pub mod Table
+pub mod Agrees
+pub mod Locks
+pub mod Answers
+pub mod Walks

@@ -1,0 +1,19 @@
+//! Which transactions and commits have keys and prefixes, and what cancels a write.
+#![tactic(auto)]
+
+mod ending;
+mod held;
+mod lock;
+mod lock_fault;
+mod locking;
+mod locks;
+mod logged;
+mod moves;
+mod name;
+mod names;
+mod pruning;
+mod search;
+mod table;
+
+pub use lock_fault::LockFault;
+pub use locks::KeyLocks;

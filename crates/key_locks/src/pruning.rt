@@ -1,0 +1,34 @@
+//! Commits that are forgotten, and changes that are taken back.
+ghost use Rattle.std.specs.Prelude.{◌≡◌, ◌==◌, ◌-◌, ◌≤◌, ℕ, cond, length, max, take};
+ghost use Rattle.hse_rows.specs.declared.write.Write.{Write as a_write};
+ghost use Rattle.key_locks.specs.Locks.{commits_of, spare_of, writes_of};
+ghost use Rattle.key_locks.specs.Logged.{without_old};
+
+use crate::locks::KeyLocks;
+use crate::moves::{forget, undo_names};
+
+impl KeyLocks {
+    /// Forgets the first commits up to a number. Where their numbers rise these are all up to it.
+    /// Later snapshots are at least this number. It takes no memory.
+    pub fn prune(&mut self, least: u64)
+        ensures commits { commits_of self.new ≡ without_old (λ (commit : ℕ × a_write). commit.0) least (commits_of self.old) }
+        ensures least { self.new.least ≡ max self.old.least least }
+        ensures writes { (other : ℕ) → writes_of self.new other ≡ writes_of self.old other }
+        ensures spare { spare_of self.old ≤ spare_of self.new }
+    {
+        forget(&mut self.table, &mut self.logged, least);
+        self.least = self.least.max(least);
+    }
+
+    /// Takes back the last `count` changes that a transaction locked. A name that an earlier change
+    /// of it has stays locked. It takes no memory.
+    pub fn undo(&mut self, txn: u64, count: u64)
+        ensures writes { (other : ℕ) → writes_of self.new other
+            ≡ cond (other == txn) (take (length (writes_of self.old other) - count) (writes_of self.old other)) (writes_of self.old other) }
+        ensures commits { commits_of self.new ≡ commits_of self.old }
+        ensures least { self.new.least ≡ self.old.least }
+        ensures spare { spare_of self.new ≡ spare_of self.old }
+    {
+        undo_names(&mut self.table, &mut self.held, txn, count);
+    }
+}
