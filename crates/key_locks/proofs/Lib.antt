@@ -12,3 +12,7 @@ pub mod OverlapLemmas
 pub mod AnswerLemmas
 pub mod UndoLemmas
 pub mod PutLemmas
+pub mod PlaceLemmas
+pub mod StandLemmas
+pub mod StandMoves
+pub mod ConflictLemmas

@@ -8,3 +8,5 @@ pub mod Agrees
 pub mod Locks
 pub mod Answers
 pub mod Walks
+pub mod Standing
+pub mod laws

@@ -3,6 +3,7 @@
 
 mod ending;
 mod held;
+mod laws;
 mod lock;
 mod lock_fault;
 mod locking;
@@ -15,5 +16,9 @@ mod pruning;
 mod search;
 mod table;
 
+pub use laws::{
+    locks_answer_the_conflict, locks_stand_after_ends, locks_stand_after_moves,
+    locks_stand_from_the_opening,
+};
 pub use lock_fault::LockFault;
 pub use locks::KeyLocks;
