@@ -1,5 +1,6 @@
 //! Laws of trees. The function does nothing; its contract is the law.
 ghost use Rattle.cn_tree.specs.Layouts.{SetsAreTheSame, ChangesAreTheSame, ChildrenAreTheSame};
+ghost use Rattle.cn_tree.specs.Wishes.{PicksAreWishes};
 
 use hse_rows::Shared;
 
@@ -9,4 +10,10 @@ pub fn trees_are_layouts<R: Shared>()
     ensures sets { SetsAreTheSame R }
     ensures changes { ChangesAreTheSame R }
     ensures children { ChildrenAreTheSame R }
+{}
+
+/// With the claims of the live jobs, the pick of a live store's tree is what the machine's schedule
+/// wishes of that store's nodes.
+pub fn picks_are_wishes<R: Shared>()
+    ensures { PicksAreWishes R R.rows }
 {}
