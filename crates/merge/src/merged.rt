@@ -109,7 +109,8 @@ impl<R: RowSet + Drop> Merged<R> {
 
     /// The next merged row in the direction: of each key the newest row, unless a newer prefix delete
     /// of any source covers it. There is none where no key is left, and then nothing changes. It takes
-    /// no memory, searches no place, and reads at most three rows a source for each key that it passes.
+    /// no memory. No place is searched. For each key that it passes it reads at most three rows of
+    /// each source, and asks `covered` of each source that has prefix deletes.
     pub fn next(&mut self) -> Option<RowRef<'_>>
         ensures row { IsNext self.old (row_by result) }
         ensures* after { sem 𝓛 (follows_so (the_row R.row R.RowSet) (the_row R.row R.RowSet)
