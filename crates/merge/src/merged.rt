@@ -1,12 +1,16 @@
 //! A merge of sources.
 ghost use Rattle.std.specs.Prelude.{◌≡◌, ℕ, List, map, Option, None, IfOk, IfSome};
+ghost use Rattle.std.specs.List.{filter};
 ghost use Rattle.hse_rows.specs.declared.row.Row.{Row as a_row};
+ghost use Rattle.hse_rows.specs.Newest.{newest};
 ghost use Rattle.hse_rows.specs.RowSets.{row_of, row_by};
 ghost use Rattle.hse_rows.specs.Cursor.{forward, front};
 ghost use Rattle.row_laws.specs.Next.{OwnFalls, position_of};
+ghost use Rattle.row_laws.specs.Sources.{all_rows};
+ghost use Rattle.prefix_delete.specs.Prefixes.{rows_of};
 ghost use Rattle.merge.specs.Places.{direction_of, places_by};
 ghost use Rattle.merge.specs.Steps.{IsRowAt};
-ghost use Rattle.merge.specs.Deletes.{all_deletes};
+ghost use Rattle.merge.specs.Deletes.{all_deletes, is_delete};
 ghost use Rattle.merge.specs.Merge.{StandsAt, IsNext, Goes, last_after};
 
 use crate::covers::are_known;
@@ -100,9 +104,12 @@ impl<R: RowSet + Drop> Merged<R> {
         self.last
     }
 
-    /// The prefix deletes of all sources, each prefix once with the greatest number.
+    /// The prefix deletes of all sources, each prefix once with the greatest number: those of the newest
+    /// rows of all.
     pub fn prefixes(&self, alloc: Global) -> Result<PrefixList, NoMemory>
-        ensures { IfOk result (λ list. list ≡ all_deletes self.now.sources) }
+        ensures made { IfOk result (λ list. list ≡ all_deletes self.now.sources) }
+        ensures newest { IfOk result (λ list. rows_of list
+            ≡ filter is_delete (newest (all_rows self.now.sources))) }
     {
         prefixes(alloc, &self.sources)
     }
