@@ -6,4 +6,6 @@ mod ingest_trees;
 #[cfg(test)]
 mod merges;
 #[cfg(test)]
+mod sets;
+#[cfg(test)]
 mod trees;
