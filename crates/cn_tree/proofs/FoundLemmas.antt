@@ -1,5 +1,6 @@
 -- Along a path on which numbers fall, the first set that says something of a key says its newest row.
-use Rattle.std.proofs.Common.{◌≡◌, ℕ, ◌+◌, ◌<◌, ◌≤◌, ◌==◌, Bool, true, false, cond, not, ltb, zero, suc, List, [], ◌∷◌, ◌++◌, drop, Option, Some, None, refl, sym, ap, ◌∙◌, subst, arith}
+use Rattle.std.proofs.Common.{◌≡◌, ℕ, ◌+◌, ◌<◌, ◌≤◌, ◌==◌, Bool, true, false, cond, not, ltb, zero, suc, List, [], ◌∷◌, ◌++◌, drop, map, Option, Some, None, refl, sym, ap, ◌∙◌, subst, arith}
+use Rattle.std.proofs.lemmas.List.{map-append}
 use Rattle.std.proofs.lemmas.Bool.{lt-ltb, le-ltb, ltb-true, ltb-false}
 use Rattle.std.specs.Prelude.{is_some, ◌/◌, ◌%◌}
 use Rattle.std.proofs.Math.Nat.{div-one}
@@ -228,12 +229,17 @@ module _ (key : List ℕ) where
       ∙ sym (or-assoc (row_said (own_at key x) (covered_at key x)) (first_row key xs) (first_row key ys))
 
   -- one depth more, where the sets at it say this
-  module _ (sets : ℕ → List (List Row)) (here : Option (Option Row)) where
-    at : (e : ℕ) (rest : List ℕ) → here ≡ first_row key (sets e) → first_row key (flat_map sets (e ∷ rest)) ≡ or_farther here (first_row key (flat_map sets rest))
-    at e rest is = first-append (sets e) (flat_map sets rest) ∙ ap (λ h. or_farther h (first_row key (flat_map sets rest))) (sym is)
+  module _ {R : Type 0} (rows : R → List Row) (sets : ℕ → List R) (here : Option (Option Row)) where
+    abbrev found : List ℕ → Option (Option Row)
+    found depths = first_row key (map rows (flat_map sets depths))
 
-    pub first-depth : (d : ℕ) → d < 5 → here ≡ first_row key (sets d)
-        → first_row key (flat_map sets (drop d depths)) ≡ or_farther here (first_row key (flat_map sets (drop (d + 1) depths)))
+    at : (e : ℕ) (rest : List ℕ) → here ≡ first_row key (map rows (sets e)) → found (e ∷ rest) ≡ or_farther here (found rest)
+    at e rest is =
+        ap (first_row key) (map-append rows (sets e) (flat_map sets rest))
+        ∙ first-append (map rows (sets e)) (map rows (flat_map sets rest)) ∙ ap (λ h. or_farther h (found rest)) (sym is)
+
+    pub first-depth : (d : ℕ) → d < 5 → here ≡ first_row key (map rows (sets d))
+        → first_row key (map rows (flat_map sets (drop d depths))) ≡ or_farther here (first_row key (map rows (flat_map sets (drop (d + 1) depths))))
     first-depth zero in' is = at 0 (1 ∷ 2 ∷ 3 ∷ 4 ∷ []) is
     first-depth (suc zero) in' is = at 1 (2 ∷ 3 ∷ 4 ∷ []) is
     first-depth (suc (suc zero)) in' is = at 2 (3 ∷ 4 ∷ []) is

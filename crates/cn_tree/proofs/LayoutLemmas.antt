@@ -11,14 +11,14 @@ use Rattle.hse_rows.specs.writes.Change.{covers}
 use Rattle.hse_rows.specs.writes.NormalForm.{same}
 use Rattle.hse_rows.specs.writes.Sorted.{placed}
 use Rattle.hse_rows.specs.rows.Layout.{RowsInBlocks, Node, node_cmp, is_at as layout_is_at, sets_in as layout_sets_in, sets_at as layout_sets_at, with_sets as layout_with_sets, has_children as layout_has_children}
-use Rattle.cn_tree.specs.Tree.{RowsOfSet, TreeNode, path_cmp, is_at, sets_in, sets_at, node_of, with_sets, has_children}
+use Rattle.cn_tree.specs.Tree.{TreeNode, path_cmp, is_at, sets_in, sets_at, node_of, with_sets, has_children}
 use Rattle.cn_tree.specs.Layouts.{node_in, layout_of}
 
-module _ (store : ℕ) (blocks : RowsOfSet → RowsInBlocks) where
+module _ {R : Type 0} (store : ℕ) (blocks : R → RowsInBlocks) where
   own : (store == store) ≡ true
   own = eq-eqb store store refl
 
-  pub sets-same : (nodes : List TreeNode) (path : List ℕ) → layout_sets_at (layout_of store blocks nodes) store path ≡ map blocks (sets_at nodes path)
+  pub sets-same : (nodes : List (TreeNode R)) (path : List ℕ) → layout_sets_at (layout_of store blocks nodes) store path ≡ map blocks (sets_at nodes path)
   sets-same [] path = refl
   sets-same (x ∷ xs) path =
       ap (λ b. layout_sets_in (cond (b && same x.path path) (Some (node_in store blocks x)) (find (layout_is_at store path) (layout_of store blocks xs)))) own
@@ -27,7 +27,7 @@ module _ (store : ℕ) (blocks : RowsOfSet → RowsInBlocks) where
       ≡ map blocks (sets_in (cond b (Some x) (find (is_at path) xs))))
       [ true ↦ refl | _ ↦ sets-same xs path ]
 
-  others-same : (nodes : List TreeNode) (path : List ℕ)
+  others-same : (nodes : List (TreeNode R)) (path : List ℕ)
       → filter (λ (node : Node). not (layout_is_at store path node)) (layout_of store blocks nodes) ≡ layout_of store blocks (filter (λ node. not (is_at path node)) nodes)
   others-same [] path = refl
   others-same (x ∷ xs) path =
@@ -37,13 +37,13 @@ module _ (store : ℕ) (blocks : RowsOfSet → RowsInBlocks) where
       ≡ layout_of store blocks (cond b (x ∷ filter (λ node. not (is_at path node)) xs) (filter (λ node. not (is_at path node)) xs)))
       [ true ↦ ap (λ l. node_in store blocks x ∷ l) (others-same xs path) | _ ↦ others-same xs path ]
 
-  cmp-same : (x y : TreeNode) → node_cmp (node_in store blocks x) (node_in store blocks y) ≡ path_cmp x y
+  cmp-same : (x y : TreeNode R) → node_cmp (node_in store blocks x) (node_in store blocks y) ≡ path_cmp x y
   cmp-same x y = by (nat_cmp store store) (tied_itself nat_cmp_total store)
     where
       by : (r : Ordering) → r ≡ Equal → ordering_then r (slice_cmp nat_cmp x.path y.path) ≡ slice_cmp nat_cmp x.path y.path
       by r is = ap (λ (c : Ordering). ordering_then c (slice_cmp nat_cmp x.path y.path)) is
 
-  placed-same : (nodes : List TreeNode) (x : TreeNode)
+  placed-same : (nodes : List (TreeNode R)) (x : TreeNode R)
       → placed node_cmp (layout_of store blocks nodes) (node_in store blocks x) ≡ layout_of store blocks (placed path_cmp nodes x)
   placed-same [] x = refl
   placed-same (y ∷ ys) x =
@@ -53,14 +53,14 @@ module _ (store : ℕ) (blocks : RowsOfSet → RowsInBlocks) where
       ≡ layout_of store blocks (cond b (x ∷ y ∷ ys) (y ∷ placed path_cmp ys x)))
       [ true ↦ refl | _ ↦ ap (λ l. node_in store blocks y ∷ l) (placed-same ys x) ]
 
-  pub changes-same : (nodes : List TreeNode) (path : List ℕ) (sets : List RowsOfSet)
+  pub changes-same : (nodes : List (TreeNode R)) (path : List ℕ) (sets : List R)
       → layout_with_sets (layout_of store blocks nodes) store path (map blocks sets) ≡ layout_of store blocks (with_sets nodes path sets)
   changes-same nodes path [] = others-same nodes path
   changes-same nodes path (first ∷ rest) =
       ap (λ l. placed node_cmp l (node_in store blocks (node_of path (first ∷ rest)))) (others-same nodes path)
       ∙ placed-same (filter (λ node. not (is_at path node)) nodes) (node_of path (first ∷ rest))
 
-  pub children-same : (nodes : List TreeNode) (path : List ℕ) → layout_has_children (layout_of store blocks nodes) store path ≡ has_children nodes path
+  pub children-same : (nodes : List (TreeNode R)) (path : List ℕ) → layout_has_children (layout_of store blocks nodes) store path ≡ has_children nodes path
   children-same [] path = refl
   children-same (x ∷ xs) path =
       (λ i. ((own i && covers path x.path) && not (same path x.path)) || children-same xs path i)

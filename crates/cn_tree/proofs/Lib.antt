@@ -2,3 +2,4 @@ pub mod NodeLemmas
 pub mod RunLemmas
 pub mod FoundLemmas
 pub mod LayoutLemmas
+pub mod WishLemmas

@@ -4,3 +4,4 @@ pub mod Runs
 pub mod Found
 pub mod Schedule
 pub mod Layouts
+pub mod Wishes

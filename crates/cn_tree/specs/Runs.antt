@@ -7,7 +7,8 @@ use Rattle.cn_tree.specs.declared.tree_fault.TreeFault.TheVariants.{NoRun, NoMem
 abbrev pub IsRun : ℕ → ℕ → ℕ → Type 0
 IsRun have older len = (0 < len) × (older + len ≤ have)
 
--- A run that is not there is refused with the number of sets, and for no other reason. Want of memory is free.
+-- A run that is not there is refused with the number of sets, and for no other reason. Want of memory is told only of a
+-- run that is there.
 abbrev pub RefusesRun : ℕ → ℕ → ℕ → TreeFault → Type 0
 RefusesRun have older len (NoRun sets) = (sets ≡ have) × (IsRun have older len → ⊥)
-RefusesRun have older len NoMemory = Unit {0}
+RefusesRun have older len NoMemory = IsRun have older len

@@ -12,7 +12,7 @@ mod schedule;
 mod tree;
 mod tree_fault;
 
-pub use laws::trees_are_layouts;
+pub use laws::{picks_are_wishes, trees_are_layouts};
 pub use node_path::NodePath;
 pub use routing::route;
 pub use schedule::{Pick, PickKind};

@@ -1,5 +1,5 @@
 //! A node of a tree.
-ghost use Rattle.std.specs.Prelude.{◌≡◌, ◌++◌, map, IfOk, OnOk};
+ghost use Rattle.std.specs.Prelude.{◌≡◌, ◌++◌, IfOk, OnOk};
 ghost use Rattle.cn_tree.specs.Tree.{node_of};
 
 use crate::node_path::NodePath;
@@ -16,18 +16,17 @@ pub(crate) struct Node<R: Shared> {
 }
 
 impl<R: Shared> Model for Node<R> {
-    ghost use Rattle.std.specs.Prelude.{map};
     ghost use Rattle.cn_tree.specs.Tree.{TreeNode, node_of};
 
-    ghost Value = { TreeNode };
+    ghost Value = { TreeNode R };
 
-    ghost view = { λ n. node_of n.path (map R.rows n.sets.items) };
+    ghost view = { λ n. node_of n.path n.sets.items };
 }
 
 impl<R: Shared> Node<R> {
     /// A node of these sets.
     pub(crate) fn of(path: NodePath, sets: Vec<R>) -> Node<R>
-        ensures { result ≡ node_of path (map R.rows sets.items) }
+        ensures { result ≡ node_of path sets.items }
     {
         Node { path, sets }
     }
@@ -41,7 +40,7 @@ impl<R: Shared> Node<R> {
 
     /// The sets.
     pub(crate) fn sets(&self) -> &[R]
-        ensures { map R.rows result.now ≡ self.now.sets }
+        ensures { result.now ≡ self.now.sets }
     {
         &self.sets
     }
@@ -60,7 +59,7 @@ impl<R: Shared> Node<R> {
 
 /// One more owner of each set.
 pub(crate) fn share_all<R: Shared>(alloc: Global, sets: &[R]) -> Result<Vec<R>, NoMemory>
-    ensures { IfOk result (λ twins. map R.rows twins.items ≡ map R.rows sets.now) }
+    ensures { IfOk result (λ twins. twins.items ≡ sets.now) }
 {
     let mut twins = Vec::with_capacity(alloc, sets.len())?;
     add_shares(alloc, &mut twins, sets)?;
@@ -73,8 +72,7 @@ pub(crate) fn add_shares<R: Shared>(
     into: &mut Vec<R>,
     sets: &[R],
 ) -> Result<(), NoMemory>
-    ensures { OnOk result
-        (map R.rows into.new.items ≡ map R.rows into.old.items ++ map R.rows sets.now) }
+    ensures { OnOk result (into.new.items ≡ into.old.items ++ sets.now) }
 {
     for set in sets {
         into.push(set.share(alloc)?)?;

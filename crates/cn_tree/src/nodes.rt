@@ -1,5 +1,5 @@
 //! Nodes in the order of their paths, as they stand in a vector.
-ghost use Rattle.std.specs.Prelude.{◌≡◌, [], ◌∷◌, length, map, OnOk, IfOk};
+ghost use Rattle.std.specs.Prelude.{◌≡◌, [], ◌∷◌, length, OnOk, IfOk};
 ghost use Rattle.std.specs.List.{filter};
 ghost use Rattle.std.specs.Prelude.{not};
 ghost use Rattle.hse_rows.specs.writes.Sorted.{placed};
@@ -23,7 +23,7 @@ impl<R: Shared> Model for Nodes<R> {
     ghost use Rattle.std.specs.Prelude.{List};
     ghost use Rattle.cn_tree.specs.Tree.{TreeNode, AreNodes};
 
-    ghost Value = { List TreeNode };
+    ghost Value = { List (TreeNode R) };
 
     ghost view = { λ n. n.list.items };
 
@@ -60,7 +60,7 @@ fn place<R: Shared>(nodes: &[Node<R>], path: &[u8]) -> Result<usize, usize>
 /// The sets of the node of this path, and none where there is no such node.
 pub(crate) fn sets_of<'a, R: Shared>(nodes: &'a [Node<R>], path: &[u8]) -> &'a [R]
     requires { IsStrictlySortedBy path_cmp nodes.now }
-    ensures { map R.rows result.now ≡ sets_at nodes.now path.now }
+    ensures { result.now ≡ sets_at nodes.now path.now }
 {
     match place(nodes, path) {
         Ok(at) => nodes[at].sets(),
@@ -114,7 +114,7 @@ pub(crate) fn put_sets<R: Shared>(
 ) -> Result<(), NoMemory>
     requires { IsStrictlySortedBy path_cmp nodes.old.items }
     ensures { OnOk result (nodes.new.items
-        ≡ with_sets nodes.old.items path.now (map R.rows sets.items)) }
+        ≡ with_sets nodes.old.items path.now sets.items) }
 {
     if sets.is_empty() {
         drop_node(nodes, path.digits());
@@ -132,7 +132,7 @@ pub(crate) fn put_set_in_front<R: Shared>(
 ) -> Result<(), NoMemory>
     requires { IsStrictlySortedBy path_cmp nodes.old.items }
     ensures { OnOk result (nodes.new.items
-        ≡ with_sets nodes.old.items path.now (R.rows set ∷ sets_at nodes.old.items path.now)) }
+        ≡ with_sets nodes.old.items path.now (set ∷ sets_at nodes.old.items path.now)) }
 {
     let behind = sets_of(nodes, path.digits());
     let mut sets = Vec::with_capacity(alloc, 4)?;

@@ -1,5 +1,5 @@
 //! Runs of a node's sets.
-ghost use Rattle.std.specs.Prelude.{◌≡◌, ◌+◌, ◌-◌, ◌++◌, length as number_of, map, take, drop as without, OnOk, IfOk, IfErr};
+ghost use Rattle.std.specs.Prelude.{◌≡◌, ◌+◌, ◌-◌, ◌++◌, length as number_of, take, drop as without, OnOk, IfOk, IfErr};
 ghost use Rattle.cn_tree.specs.Tree.{in_place_of_run as replaced, set_list};
 ghost use Rattle.cn_tree.specs.Runs.{IsRun, RefusesRun};
 
@@ -41,7 +41,7 @@ fn around_run<'a, R: Shared>(
 /// Adds a set where there is one.
 fn add_set<R: Shared>(into: &mut Vec<R>, set: Option<R>) -> Result<(), NoMemory>
     ensures { OnOk result
-        (map R.rows into.new.items ≡ map R.rows into.old.items ++ set_list R.rows set) }
+        (into.new.items ≡ into.old.items ++ set_list set) }
 {
     if let Some(set) = set {
         into.push(set)?;
@@ -58,8 +58,7 @@ pub(crate) fn in_place_of_run<R: Shared>(
     set: Option<R>,
 ) -> Result<Vec<R>, TreeFault>
     ensures run { IfOk result (λ _. IsRun (number_of sets.now) below length) }
-    ensures made { IfOk result (λ new. map R.rows new.items
-        ≡ replaced (map R.rows sets.now) below length (set_list R.rows set)) }
+    ensures made { IfOk result (λ new. new.items ≡ replaced sets.now below length (set_list set)) }
     ensures refused { IfErr result (RefusesRun (number_of sets.now) below length) }
 {
     let (front, behind) = around_run(sets, below, length)?;

@@ -88,7 +88,7 @@ fn is_below(path: &[u8], other: &[u8]) -> bool
 
 /// What is done with a node's sets.
 fn kind_of<R: Shared>(nodes: &[Node<R>], node: &Node<R>) -> PickKind
-    ensures { result ≡ kind_for nodes.now node.now }
+    ensures { result ≡ kind_for R.rows nodes.now node.now }
 {
     let path = node.path().digits();
     if path.len() < GREATEST_DEPTH {
@@ -114,7 +114,7 @@ fn is_waiting<R: Shared>(node: &Node<R>, claimed: &[NodePath]) -> bool
 
 /// All sets of a node.
 fn run_of<R: Shared>(nodes: &[Node<R>], node: &Node<R>) -> Pick
-    ensures { result ≡ whole_run nodes.now node.now }
+    ensures { result ≡ whole_run R.rows nodes.now node.now }
 {
     Pick {
         kind: kind_of(nodes, node),
@@ -125,7 +125,7 @@ fn run_of<R: Shared>(nodes: &[Node<R>], node: &Node<R>) -> Pick
 
 /// The run of the first node that waits.
 pub(crate) fn first_pick<R: Shared>(nodes: &[Node<R>], claimed: &[NodePath]) -> Option<Pick>
-    ensures { result ≡ next_pick nodes.now claimed.now }
+    ensures { result ≡ next_pick R.rows nodes.now claimed.now }
 {
     for node in nodes {
         if is_waiting(node, claimed) {

@@ -38,7 +38,7 @@ impl<R: Shared> Model for Tree<R> {
     ghost use Rattle.std.specs.Arc.{arc_value};
     ghost use Rattle.cn_tree.specs.Tree.{TreeState, nodes_in};
 
-    ghost Value = { TreeState };
+    ghost Value = { TreeState R };
 
     ghost view = { λ t. record { prefix_length = t.prefix; nodes = nodes_in arc_value t.nodes } };
 }
@@ -104,12 +104,12 @@ impl<R: Shared> Tree<R> {
         self.list().len() as u64
     }
 
-    /// A node's path and its sets, newest first. The nodes are counted in the order of their paths, a
-    /// path before its extensions. It takes no memory.
+    /// A node's path and the sets that were put there, newest first. The nodes are counted in the
+    /// order of their paths, a path before its extensions. It takes no memory.
     pub fn node(&self, at: u64) -> (&NodePath, &[R])
         requires { at < number_of self.now.nodes }
         ensures { slice_get self.now.nodes at
-            ≡ Some (node_of result.0.now (map R.rows result.1.now)) }
+            ≡ Some (node_of result.0.now result.1.now) }
     {
         let node = &self.list()[at as usize];
         (node.path(), node.sets())
@@ -120,8 +120,9 @@ impl<R: Shared> Tree<R> {
     /// condition is that the numbers of the rows that reach the key fall from set to set. It takes no
     /// memory.
     pub fn find(&self, key: &[u8]) -> Option<RowRef<'_>>
-        requires { Falls key.now (sets_on self.now key.now) }
-        ensures { row_by result ≡ lasting_at (all_rows (sets_on self.now key.now)) key.now }
+        requires { Falls key.now (map R.rows (sets_on self.now key.now)) }
+        ensures { row_by result ≡ lasting_at
+            (all_rows (map R.rows (sets_on self.now key.now))) key.now }
     {
         match self.first_on(key, &digits_of(route(self.prefix, key))) {
             None => None,
@@ -132,7 +133,8 @@ impl<R: Shared> Tree<R> {
     /// What the first set on this path that says something of the key says.
     fn first_on(&self, key: &[u8], path: &[u8; 4]) -> Option<Option<RowRef<'_>>>
         requires { path.now ≡ path_of self.now.prefix_length key.now }
-        ensures { option_map row_by result ≡ first_row key.now (sets_on self.now key.now) }
+        ensures { option_map row_by result ≡ first_row key.now
+            (map R.rows (sets_on self.now key.now)) }
     {
         for depth in 0..5 {
             match first_in(sets_of(self.list(), &path[..depth]), key) {
@@ -146,7 +148,7 @@ impl<R: Shared> Tree<R> {
     /// The tree with a new set at the front of a node.
     pub fn put_front(&self, alloc: Global, path: &NodePath, set: R) -> Result<Tree<R>, NoMemory>
         ensures { IfOk result (λ tree. tree
-            ≡ tree_of self.now (in_front self.now.nodes path.now (R.rows set))) }
+            ≡ tree_of self.now (in_front self.now.nodes path.now set)) }
     {
         let mut nodes = share_nodes(alloc, self.list())?;
         put_set_in_front(alloc, &mut nodes, path, set)?;
@@ -167,7 +169,7 @@ impl<R: Shared> Tree<R> {
         ensures run { IfOk result (λ _.
             IsRun (number_of (sets_at self.now.nodes path.now)) below length) }
         ensures made { IfOk result (λ tree. tree
-            ≡ tree_of self.now (with_run self.now.nodes path.now below length (set_list R.rows set))) }
+            ≡ tree_of self.now (with_run self.now.nodes path.now below length (set_list set))) }
         ensures refused { IfErr result
             (RefusesRun (number_of (sets_at self.now.nodes path.now)) below length) }
     {
@@ -187,7 +189,7 @@ impl<R: Shared> Tree<R> {
         ensures run { IfOk result (λ _.
             IsRun (number_of (sets_at self.now.nodes path.now)) below length) }
         ensures made { IfOk result (λ nodes. nodes.items
-            ≡ with_run self.now.nodes path.now below length (set_list R.rows set)) }
+            ≡ with_run self.now.nodes path.now below length (set_list set)) }
         ensures known { IfOk result (λ nodes. AreNodes nodes.items) }
         ensures refused { IfErr result
             (RefusesRun (number_of (sets_at self.now.nodes path.now)) below length) }
@@ -212,8 +214,7 @@ impl<R: Shared> Tree<R> {
         ensures run { IfOk result (λ _.
             IsRun (number_of (sets_at self.now.nodes path.now)) 0 length) }
         ensures made { IfOk result (λ tree. tree ≡ tree_of self.now
-            (in_fronts (with_run self.now.nodes path.now 0 length [])
-            (map (λ part. (part.0, R.rows part.1)) sets.items))) }
+            (in_fronts (with_run self.now.nodes path.now 0 length []) sets.items)) }
         ensures refused { IfErr result
             (RefusesRun (number_of (sets_at self.now.nodes path.now)) 0 length) }
     {
@@ -227,7 +228,7 @@ impl<R: Shared> Tree<R> {
     /// node is less than 4 deep, else a key-value compaction where no node stands below it, else a
     /// key compaction. It takes no memory today.
     pub fn schedule(&self, claimed: &[NodePath]) -> Result<Option<Pick>, NoMemory>
-        ensures { result ≡ Ok (next_pick self.now.nodes claimed.now) }
+        ensures { result ≡ Ok (next_pick R.rows self.now.nodes claimed.now) }
     {
         Ok(first_pick(self.list(), claimed))
     }
@@ -241,7 +242,7 @@ fn put_all_in_front<R: Shared>(
 ) -> Result<(), NoMemory>
     requires { AreNodes nodes.old.items }
     ensures made { OnOk result (nodes.new.items
-        ≡ in_fronts nodes.old.items (map (λ part. (part.0, R.rows part.1)) sets.items)) }
+        ≡ in_fronts nodes.old.items sets.items) }
     ensures known { OnOk result (AreNodes nodes.new.items) }
 {
     for (path, set) in sets {

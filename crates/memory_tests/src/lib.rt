@@ -8,4 +8,6 @@ mod locks;
 #[cfg(test)]
 mod merges;
 #[cfg(test)]
+mod sets;
+#[cfg(test)]
 mod trees;

@@ -8,3 +8,5 @@ pub mod TurnLemmas
 pub mod SeekLemmas
 pub mod DeleteLemmas
 pub mod ListLemmas
+pub mod OutdoneLemmas
+pub mod NewestLemmas

@@ -1,9 +1,10 @@
 -- The prefix deletes of several sources, as entries of a list.
-use Rattle.std.specs.Prelude.{ℕ, List, []}
+use Rattle.std.specs.Prelude.{ℕ, ◌==◌, Bool, List, []}
 use Rattle.std.specs.List.{fold}
 use Rattle.hse_rows.specs.declared.row.Row.{Row}
 use Rattle.hse_rows.specs.declared.change.Change.{Change}
 use Rattle.hse_rows.specs.declared.change.Change.TheVariants.{Put, Del, PDel}
+use Rattle.hse_rows.specs.writes.NormalForm.{rank}
 use Rattle.row_laws.specs.Sources.{all_rows}
 use Rattle.prefix_delete.specs.declared.entry.Entry.{Entry}
 use Rattle.prefix_delete.specs.Prefixes.{entry_of, with_entry}
@@ -24,3 +25,6 @@ with_deletes entries rows = fold with_delete entries rows
 -- of each prefix of all sources the greatest number
 unfoldable pub all_deletes : List (List Row) → List Entry
 all_deletes sources = with_deletes [] (all_rows sources)
+
+abbrev pub is_delete : Row → Bool
+is_delete row = rank row.change == 0

@@ -1,12 +1,16 @@
 //! A merge of sources.
 ghost use Rattle.std.specs.Prelude.{◌≡◌, ℕ, List, map, Option, None, IfOk, IfSome};
+ghost use Rattle.std.specs.List.{filter};
 ghost use Rattle.hse_rows.specs.declared.row.Row.{Row as a_row};
+ghost use Rattle.hse_rows.specs.rows.Newest.{newest};
 ghost use Rattle.hse_rows.specs.rows.RowSets.{row_of, row_by};
 ghost use Rattle.hse_rows.specs.script.Cursor.{forward, front};
 ghost use Rattle.row_laws.specs.Next.{OwnFalls, position_of};
+ghost use Rattle.row_laws.specs.Sources.{all_rows};
+ghost use Rattle.prefix_delete.specs.Prefixes.{rows_of};
 ghost use Rattle.merge.specs.Places.{direction_of, places_by};
 ghost use Rattle.merge.specs.Steps.{IsRowAt};
-ghost use Rattle.merge.specs.Deletes.{all_deletes};
+ghost use Rattle.merge.specs.Deletes.{all_deletes, is_delete};
 ghost use Rattle.merge.specs.Merge.{StandsAt, IsNext, Goes, last_after};
 
 use crate::covers::are_known;
@@ -100,16 +104,20 @@ impl<R: RowSet + Drop> Merged<R> {
         self.last
     }
 
-    /// The prefix deletes of all sources, each prefix once with the greatest number.
+    /// The prefix deletes of all sources, each prefix once with the greatest number: those of the newest
+    /// rows of all.
     pub fn prefixes(&self, alloc: Global) -> Result<PrefixList, NoMemory>
-        ensures { IfOk result (λ list. list ≡ all_deletes self.now.sources) }
+        ensures made { IfOk result (λ list. list ≡ all_deletes self.now.sources) }
+        ensures newest { IfOk result (λ list. rows_of list
+            ≡ filter is_delete (newest (all_rows self.now.sources))) }
     {
         prefixes(alloc, &self.sources)
     }
 
     /// The next merged row in the direction: of each key the newest row, unless a newer prefix delete
     /// of any source covers it. There is none where no key is left, and then nothing changes. It takes
-    /// no memory, searches no place, and reads at most three rows a source for each key that it passes.
+    /// no memory. No place is searched. For each key that it passes it reads at most three rows of
+    /// each source, and asks `covered` of each source that has prefix deletes.
     pub fn next(&mut self) -> Option<RowRef<'_>>
         ensures row { IsNext self.old (row_by result) }
         ensures* after { sem 𝓛 (follows_so (the_row R.row R.RowSet) (the_row R.row R.RowSet)

@@ -1,4 +1,4 @@
-use Rattle.std.proofs.Common.{◌≡◌, map}
+use Rattle.std.proofs.Common.{◌≡◌}
 use Rattle.std.specs.Vec.Iter.{into_iter_items}
 use Rattle.cn_tree.specs.Tree.{AreNodes, in_fronts}
 use Rattle.cn_tree.proofs.tree.put_all_in_front.Given as goal
@@ -10,6 +10,6 @@ invariant-loop-path g l = record {
   ends : (goal.iterator-loop-path g).is_finite l.path-iterator;
   known : AreNodes l.nodes.items;
   made :
-      in_fronts l.nodes.items (map (λ part. (part.0, g.R.RowSet.rows part.1)) (into_iter_items l.path-iterator))
-      ≡ in_fronts l.initial.nodes.items (map (λ part. (part.0, g.R.RowSet.rows part.1)) (into_iter_items l.initial.path-iterator));
+      in_fronts l.nodes.items (into_iter_items l.path-iterator)
+      ≡ in_fronts l.initial.nodes.items (into_iter_items l.initial.path-iterator);
 }
