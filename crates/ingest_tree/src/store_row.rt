@@ -6,7 +6,9 @@ ghost use Rattle.hse_rows.specs.RowSets.{row_of};
 ghost use Rattle.hse_rows.specs.Newest.{row_cmp};
 ghost use Rattle.ingest_tree.specs.Rows.{row, item_of, store_row_cmp, row_at};
 ghost use Rattle.ingest_tree.specs.StoreRows.{first_at};
+ghost use Rattle.ingest_tree.specs.Marks.{front_of, mark_of};
 
+use crate::mark::{Mark, front_with};
 use hse_io::NoMemory;
 use hse_rows::{ChangeRef, Row, RowRef, StoreId};
 use std::alloc::Global;
@@ -71,6 +73,13 @@ impl<'a> Spot<'a> {
         }
     }
 
+    /// The rank of the change with the first bytes of its key or prefix.
+    pub fn front(self) -> u64
+        ensures { result ≡ front_of (change_of self.entry.change) }
+    {
+        front_with(rank_of(self.change), target_of(self.change))
+    }
+
     /// How it stands to another in the order of rows.
     pub fn order(self, other: Spot<'_>) -> Ordering
         ensures { result ≡ store_row_cmp (row_at self.entry) (row_at other.entry) }
@@ -96,6 +105,16 @@ impl StoreRow {
         }
     }
 
+    /// Its mark.
+    fn mark(&self) -> Mark
+        ensures { result ≡ mark_of self.now }
+    {
+        Mark {
+            id: self.store.0,
+            front: self.spot().front(),
+        }
+    }
+
     /// The row, with its bytes lent.
     pub(crate) fn lent(&self) -> RowRef<'_>
         ensures { row_of result ≡ self.now.row }
@@ -116,10 +135,11 @@ impl StoreRow {
     }
 }
 
-/// A row with its store that several leaves share.
+/// A row with its store that several leaves share, and its mark.
 #[derive(Drop)]
 pub(crate) struct SharedRow {
     row: Arc<StoreRow>,
+    mark: Mark,
 }
 
 impl Model for SharedRow {
@@ -128,16 +148,21 @@ impl Model for SharedRow {
 
     ghost Value = { StoreRow };
 
+    ghost use Rattle.std.specs.Prelude.{◌≡◌};
+    ghost use Rattle.ingest_tree.specs.Marks.{mark_of};
+
     ghost view = { λ s. arc_value s.row };
+
+    ghost invariant = { λ s. s.mark ≡ mark_of (arc_value s.row) };
 }
 
 impl SharedRow {
     pub fn new(alloc: Global, row: StoreRow) -> Result<SharedRow, NoMemory>
         ensures { IfOk result (λ s. s ≡ row) }
     {
-        Ok(SharedRow {
-            row: Arc::new(alloc, row)?,
-        })
+        let mark = row.mark();
+        let row = Arc::new(alloc, row)?;
+        Ok(SharedRow { row, mark })
     }
 
     pub fn row(&self) -> &StoreRow
@@ -146,12 +171,19 @@ impl SharedRow {
         &self.row
     }
 
+    pub fn mark(&self) -> Mark
+        ensures { result ≡ mark_of self.now }
+    {
+        self.mark
+    }
+
     /// One more owner.
     pub fn twin(&self) -> Result<SharedRow, NoMemory>
         ensures { IfOk result (λ s. s ≡ self.now) }
     {
         Ok(SharedRow {
             row: self.row.clone()?,
+            mark: self.mark,
         })
     }
 }
