@@ -15,7 +15,7 @@ use Rattle.hse_rows.specs.writes.NormalForm.{rank, same}
 use Rattle.hse_rows.specs.rows.Meaning.{is_covering, greater, covered_at}
 use Rattle.sorted_lists.specs.laws.Parts.{find-none}
 use Rattle.ingest_tree.specs.declared.store_row.StoreRow.{StoreRow}
-use Rattle.ingest_tree.specs.Rows.{row, store_row_cmp, rows_in}
+use Rattle.ingest_tree.specs.Rows.{row_numbered, store_row_cmp, rows_in}
 use Rattle.ingest_tree.specs.Lengths.{IsInUse}
 use Rattle.ingest_tree.specs.Covered.{covered_below, prefix_at}
 use Rattle.ingest_tree.proofs.WalkLemmas.{ties, row-ties, alone}
@@ -71,10 +71,10 @@ module _ (id : ℕ) (key : List ℕ) (n : ℕ) (short : n ≤ length key) where
   is_there r = is_eq (store_row_cmp r (prefix_at id key n))
 
   ties-prefix : (r : StoreRow) → is_there r ≡ ((r.store.0 == id) && ((rank r.row.change == 0) && same (target r.row.change) (take n key)))
-  ties-prefix r = ties r (prefix_at id key n) ∙ ap (λ b. (r.store.0 == id) && b) (row-ties r.row (row 0 (PDel (take n key))))
+  ties-prefix r = ties r (prefix_at id key n) ∙ ap (λ b. (r.store.0 == id) && b) (row-ties r.row (row_numbered 0 (PDel (take n key))))
 
   abbrev covering : ℕ → ℕ → Change → Bool
-  covering most number change = is_covering key (row number change) && nat_lt (length (target change)) most
+  covering most number change = is_covering key (row_numbered number change) && nat_lt (length (target change)) most
 
   abbrev there : Change → Bool
   there change = (rank change == 0) && same (target change) (take n key)
@@ -156,7 +156,7 @@ module _ (id : ℕ) (key : List ℕ) (n : ℕ) (short : n ≤ length key) where
 -- ---- the least length, and the greatest
 
 module _ (id : ℕ) (key : List ℕ) where
-  none-shorter : (shortest longest number : ℕ) (change : Change) → IsInUse shortest longest change → (is_covering key (row number change) && nat_lt (length (target change)) shortest) ≡ false
+  none-shorter : (shortest longest number : ℕ) (change : Change) → IsInUse shortest longest change → (is_covering key (row_numbered number change) && nat_lt (length (target change)) shortest) ≡ false
   none-shorter shortest longest number (Put k bytes) use' = refl
   none-shorter shortest longest number (Del k) use' = refl
   none-shorter shortest longest number (PDel prefix) use' =
@@ -180,7 +180,7 @@ module _ (id : ℕ) (key : List ℕ) where
       ∙ covered-first shortest longest rows all.1
 
   all-shorter : (shortest longest most number : ℕ) (change : Change) → min (length key) longest < most → IsInUse shortest longest change
-      → (is_covering key (row number change) && nat_lt (length (target change)) most) ≡ is_covering key (row number change)
+      → (is_covering key (row_numbered number change) && nat_lt (length (target change)) most) ≡ is_covering key (row_numbered number change)
   all-shorter shortest longest most number (Put k bytes) long use' = refl
   all-shorter shortest longest most number (Del k) long use' = refl
   all-shorter shortest longest most number (PDel prefix) long use' = by (covers prefix key) refl
@@ -199,7 +199,7 @@ module _ (id : ℕ) (key : List ℕ) where
   covered-last shortest longest most (r ∷ rows) long all =
       by (r.store.0 == id) (all-shorter shortest longest most r.row.number r.row.change long all.0) (covered-last shortest longest most rows long all.1)
     where
-      by : (s : Bool) → (is_covering key (row r.row.number r.row.change) && nat_lt (length (target r.row.change)) most) ≡ is_covering key (row r.row.number r.row.change)
+      by : (s : Bool) → (is_covering key (row_numbered r.row.number r.row.change) && nat_lt (length (target r.row.change)) most) ≡ is_covering key (row_numbered r.row.number r.row.change)
           → covered_below id key most rows ≡ covered_at key (rows_in id rows)
           → greater (cond (s && (is_covering key r.row && nat_lt (length (target r.row.change)) most)) (Some r.row.number) None) (covered_below id key most rows)
           ≡ covered_at key (map (λ (r : StoreRow). r.row) (cond s (r ∷ filter (λ (r : StoreRow). r.store.0 == id) rows) (filter (λ (r : StoreRow). r.store.0 == id) rows)))

@@ -1,4 +1,5 @@
 pub mod OrderLemmas
+mod MarkLemmas
 pub mod PartLemmas
 pub mod GrowthLemmas
 pub mod WalkLemmas

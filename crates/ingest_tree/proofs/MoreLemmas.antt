@@ -1,5 +1,5 @@
 -- One row more, store by store.
-use Rattle.std.proofs.Common.{◌≡◌, ℕ, ◌≤◌, ◌==◌, Bool, true, false, true≢false, cond, not, ◌&&◌, nat_lt, List, [], ◌∷◌, map, refl, ap, sym, ◌∙◌, arith}
+use Rattle.std.proofs.Common.{◌≡◌, ℕ, ◌≤◌, ◌==◌, Bool, true, false, true≢false, cond, not, List, [], ◌∷◌, map, refl, ap, sym, ◌∙◌, arith}
 use Rattle.std.proofs.lemmas.Bool.{eqb-true, eq-eqb, le-ltb}
 use Rattle.std.specs.declared.cmp.Ordering.{Ordering}
 use Rattle.std.specs.declared.cmp.Ordering.TheVariants.{Less, Equal, Greater}
@@ -8,7 +8,6 @@ use Rattle.std.specs.List.{AllByRecursion, filter}
 use Rattle.std.specs.List.Sorted.{IsStrictlySortedBy}
 use Rattle.std.specs.Cmp.{IsTotalOrder, first_so}
 use Rattle.hse_rows.specs.declared.row.Row.{Row}
-use Rattle.hse_rows.specs.declared.store.StoreId.{StoreId}
 use Rattle.hse_rows.specs.writes.Sorted.{placed}
 use Rattle.hse_rows.specs.rows.Newest.{row_cmp}
 use Rattle.hse_rows.specs.rows.Meaning.{with_row}
@@ -16,7 +15,7 @@ use Rattle.sorted_lists.specs.Places.{is_apart}
 use Rattle.sorted_lists.specs.laws.Lists.{each-filter}
 use Rattle.sorted_lists.specs.laws.Orders.{placed-front, below-below, rising-filter}
 use Rattle.ingest_tree.specs.declared.store_row.StoreRow.{StoreRow}
-use Rattle.ingest_tree.specs.Rows.{store_row, store_row_cmp, rows_in, rows_with}
+use Rattle.ingest_tree.specs.Rows.{store_row_cmp, rows_in, rows_with}
 use Rattle.ingest_tree.proofs.OrderLemmas.{order}
 use Rattle.ingest_tree.proofs.WalkLemmas.{ties}
 use Rattle.ingest_tree.proofs.StoreLemmas.{kept-same}

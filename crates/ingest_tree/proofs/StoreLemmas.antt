@@ -18,7 +18,7 @@ use Rattle.sorted_lists.specs.laws.Lists.{each-weaker, each-filter, filter-all, 
 use Rattle.sorted_lists.specs.laws.Orders.{rising-filter}
 use Rattle.sorted_lists.specs.laws.Parts.{filter-append, IsCut, cut-counted}
 use Rattle.ingest_tree.specs.declared.store_row.StoreRow.{StoreRow}
-use Rattle.ingest_tree.specs.Rows.{row, store_row_cmp, rows_in}
+use Rattle.ingest_tree.specs.Rows.{row_numbered, store_row_cmp, rows_in}
 use Rattle.ingest_tree.specs.StoreRows.{first_at, key_at}
 use Rattle.ingest_tree.specs.Tree.{AreRowsOfStores}
 use Rattle.ingest_tree.proofs.OrderLemmas.{order}
@@ -29,13 +29,13 @@ use Rattle.ingest_tree.proofs.RangeLemmas.{less-from}
 abbrev same_store : ℕ → StoreRow → Bool
 same_store id r = r.store.0 == id
 
-none-below : (number : ℕ) (change : Change) → is_lt (row_cmp (row number change) (row 0 (PDel []))) ≡ false
+none-below : (number : ℕ) (change : Change) → is_lt (row_cmp (row_numbered number change) (row_numbered 0 (PDel []))) ≡ false
 none-below number (Put key bytes) = refl
 none-below number (Del key) = refl
 none-below number (PDel []) = refl
 none-below number (PDel (byte ∷ prefix)) = refl
 
-below-key : (edge : List ℕ) (number : ℕ) (change : Change) → is_lt (row_cmp (row number change) (row 0 (Del edge))) ≡ is_before edge (row number change)
+below-key : (edge : List ℕ) (number : ℕ) (change : Change) → is_lt (row_cmp (row_numbered number change) (row_numbered 0 (Del edge))) ≡ is_before edge (row_numbered number change)
 below-key edge number (Put key bytes) = refl
 below-key edge number (Del key) = refl
 below-key edge number (PDel prefix) = refl
@@ -52,12 +52,12 @@ or-none false false d is = refl
 
 before-store : (id : ℕ) (r : StoreRow) → is_lt (store_row_cmp r (first_at id)) ≡ nat_lt r.store.0 id
 before-store id r =
-    store-first (nat_lt r.store.0 id) (r.store.0 == id) (row_cmp r.row (row 0 (PDel [])))
-    ∙ or-none (nat_lt r.store.0 id) (r.store.0 == id) (is_lt (row_cmp r.row (row 0 (PDel [])))) (none-below r.row.number r.row.change)
+    store-first (nat_lt r.store.0 id) (r.store.0 == id) (row_cmp r.row (row_numbered 0 (PDel [])))
+    ∙ or-none (nat_lt r.store.0 id) (r.store.0 == id) (is_lt (row_cmp r.row (row_numbered 0 (PDel [])))) (none-below r.row.number r.row.change)
 
 before-key : (id : ℕ) (edge : List ℕ) (r : StoreRow) → is_lt (store_row_cmp r (key_at id edge)) ≡ (nat_lt r.store.0 id || (same_store id r && is_before edge r.row))
 before-key id edge r =
-    store-first (nat_lt r.store.0 id) (r.store.0 == id) (row_cmp r.row (row 0 (Del edge)))
+    store-first (nat_lt r.store.0 id) (r.store.0 == id) (row_cmp r.row (row_numbered 0 (Del edge)))
     ∙ ap (λ b. nat_lt r.store.0 id || ((r.store.0 == id) && b)) (below-key edge r.row.number r.row.change)
 
 apart-stores : (a b : ℕ) → nat_lt a b ≡ true → (a == b) ≡ false

@@ -20,7 +20,7 @@ use Rattle.sorted_lists.specs.laws.Lists.{each-weaker}
 use Rattle.sorted_lists.specs.laws.Orders.{turned}
 use Rattle.sorted_lists.specs.laws.Parts.{find-none}
 use Rattle.ingest_tree.specs.declared.store_row.StoreRow.{StoreRow}
-use Rattle.ingest_tree.specs.Rows.{row, store_row, store_row_cmp, rows_in}
+use Rattle.ingest_tree.specs.Rows.{row_numbered, store_row, store_row_cmp, rows_in}
 use Rattle.ingest_tree.proofs.OrderLemmas.{order}
 
 pub equal-is : (r : Ordering) → is_eq r ≡ true → r ≡ Equal
@@ -43,7 +43,7 @@ row-ties r x = sym (tied_then _ _) ∙ (λ i. sym (unsigned_ties (rank r.change)
 
 module _ (store : StoreId) (key : List ℕ) where
   abbrev at_key : StoreRow
-  at_key = store_row store (row 0 (Del key))
+  at_key = store_row store (row_numbered 0 (Del key))
 
   own-parts : (number : ℕ) (change : Change) → ((rank change == 1) && same (target change) key) ≡ is_own key (record { number = number; change = change })
   own-parts number (Put own bytes) = refl
@@ -51,7 +51,7 @@ module _ (store : StoreId) (key : List ℕ) where
   own-parts number (PDel prefix) = refl
 
   ties-own : (r : StoreRow) → is_eq (store_row_cmp r at_key) ≡ ((r.store.0 == store.0) && is_own key r.row)
-  ties-own r = ties r at_key ∙ ap (λ b. (r.store.0 == store.0) && b) (row-ties r.row (row 0 (Del key)) ∙ own-parts r.row.number r.row.change)
+  ties-own r = ties r at_key ∙ ap (λ b. (r.store.0 == store.0) && b) (row-ties r.row (row_numbered 0 (Del key)) ∙ own-parts r.row.number r.row.change)
 
   abbrev is_there : StoreRow → Bool
   is_there r = is_eq (store_row_cmp r at_key)

@@ -4,7 +4,7 @@ use Rattle.hse_rows.specs.declared.change.Change.TheVariants.{PDel}
 use Rattle.hse_rows.specs.writes.Change.{target}
 use Rattle.hse_rows.specs.rows.Meaning.{is_covering, greater}
 use Rattle.ingest_tree.specs.declared.store_row.StoreRow.{StoreRow}
-use Rattle.ingest_tree.specs.Rows.{row, store_row}
+use Rattle.ingest_tree.specs.Rows.{row_numbered, store_row}
 
 -- a prefix delete of the store that covers the key and is shorter than this
 abbrev pub is_covering_below : ℕ → List ℕ → ℕ → StoreRow → Bool
@@ -18,4 +18,4 @@ covered_below id key most (r ∷ rows) =
 
 -- where a prefix delete of the key's first bytes stands
 abbrev pub prefix_at : ℕ → List ℕ → ℕ → StoreRow
-prefix_at id key n = store_row (record { 0 = id }) (row 0 (PDel (take n key)))
+prefix_at id key n = store_row (record { 0 = id }) (row_numbered 0 (PDel (take n key)))

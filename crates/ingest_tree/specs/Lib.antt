@@ -1,4 +1,5 @@
 pub mod Rows
+pub mod Marks
 pub mod Parts
 pub mod laws
 pub mod Lengths

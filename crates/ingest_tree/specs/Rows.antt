@@ -28,12 +28,12 @@ rows_in id rows = map (λ (row : StoreRow). row.row) (filter (λ (row : StoreRow
 abbrev pub store_row : StoreId → Row → StoreRow
 store_row store row = record { store = store; row = row }
 
-abbrev pub row : ℕ → Change → Row
-row number change = record { number = number; change = change }
+abbrev pub row_numbered : ℕ → Change → Row
+row_numbered number change = record { number = number; change = change }
 
 -- a row that stands where a spot is
 abbrev pub row_at : Spot → StoreRow
-row_at spot = store_row (record { 0 = spot.id }) (row 0 (change_of spot.change))
+row_at spot = store_row (record { 0 = spot.id }) (row_numbered 0 (change_of spot.change))
 
 -- the row that an item is
 abbrev pub item_of : StoreId × RowRef → StoreRow

@@ -5,6 +5,7 @@ mod builder;
 mod iter;
 mod laws;
 mod lengths;
+mod mark;
 mod node;
 mod part;
 mod search;

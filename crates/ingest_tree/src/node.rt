@@ -3,9 +3,11 @@ ghost use Rattle.std.specs.Prelude.{◌≡◌, ◌≤◌, ◌<◌, ◌+◌, ◌*
 ghost use Rattle.std.specs.List.{flat_map};
 ghost use Rattle.std.specs.Option.{option_map};
 ghost use Rattle.ingest_tree.specs.Rows.{AreRising, row_at, rows_with, found_at, count_before};
+ghost use Rattle.ingest_tree.specs.Marks.{first_mark};
 ghost use Rattle.ingest_tree.specs.Parts.{Stand, IsFinished, IsOver, parts_of};
 
 use crate::builder::{Builder, rebuilt};
+use crate::mark::Mark;
 use crate::part::{Grown, Part};
 use crate::search::child_at;
 use crate::steps::Steps;
@@ -16,11 +18,12 @@ use std::marker::Model;
 use std::sync::Arc;
 use std::sync::ledger::Ledger;
 
-/// Parts in a row, with how many rows they have.
+/// Parts in a row, with how many rows they have and the mark of the first.
 #[derive(Drop)]
 pub(crate) struct Node<T: Part> {
     parts: Arc<Vec<T>>,
     count: u64,
+    mark: Mark,
 }
 
 impl<T: Part> Model for Node<T> {
@@ -32,7 +35,10 @@ impl<T: Part> Model for Node<T> {
 
     ghost view = { λ n. (arc_value n.parts).items };
 
-    ghost invariant = { λ n. n.count ≡ length (flat_map T.rows (arc_value n.parts).items) };
+    ghost use Rattle.ingest_tree.specs.Marks.{first_mark};
+
+    ghost invariant = { λ n. (n.count ≡ length (flat_map T.rows (arc_value n.parts).items))
+        × (n.mark ≡ first_mark T.marked (arc_value n.parts).items) };
 }
 
 /// A leaf, and a branch.
@@ -60,14 +66,25 @@ fn counted<T: Part>(parts: &[T]) -> Result<u64, NoMemory>
     Ok(count)
 }
 
+/// The mark of the first of these parts.
+fn mark_over<T: Part>(parts: &[T]) -> Mark
+    ensures { result ≡ first_mark T.marked parts.now }
+{
+    match parts.first() {
+        Some(part) => part.mark(),
+        None => Mark::none(),
+    }
+}
+
 impl<T: Part> Node<T> {
     /// A node of these parts.
     pub fn new(alloc: Global, parts: Vec<T>) -> Result<Node<T>, NoMemory>
         ensures { IfOk result (λ node. node ≡ parts.items) }
     {
         let count = counted(&parts)?;
+        let mark = mark_over(&parts);
         let parts = Arc::new(alloc, parts)?;
-        Ok(Node { parts, count })
+        Ok(Node { parts, count, mark })
     }
 
     /// Its parts.
@@ -160,6 +177,18 @@ impl<T: Part> Part for Node<T> {
 
     ghost begins = { λ node sound. sound-begins T.filled T.sound T.is_sound T.rows T.begins node sound.1 };
 
+    ghost use Rattle.ingest_tree.specs.Marks.{first_mark};
+    ghost use Rattle.ingest_tree.specs.laws.Filling.{sound-marks};
+
+    ghost marked = { first_mark T.marked };
+
+    ghost has_mark = { λ node sound.
+        sound-marks T.filled T.sound T.is_sound T.rows T.begins T.marked T.has_mark node sound.1 };
+
+    fn mark(&self) -> Mark {
+        self.mark
+    }
+
     fn count(&self) -> u64 {
         self.count
     }
@@ -186,6 +215,7 @@ impl<T: Part> Part for Node<T> {
         Ok(Node {
             parts: self.parts.clone()?,
             count: self.count,
+            mark: self.mark,
         })
     }
 

@@ -6,7 +6,10 @@ ghost use Rattle.std.specs.Option.{option_map};
 ghost use Rattle.ingest_tree.specs.declared.store_row.StoreRow.{StoreRow as a_row};
 ghost use Rattle.ingest_tree.specs.Rows.{AreRising, row_at, rows_with, found_at, count_before};
 ghost use Rattle.ingest_tree.specs.Parts.{parts_of, Grows};
+ghost use Rattle.ingest_tree.specs.Marks.{mark_of};
+ghost use Rattle.ingest_tree.specs.declared.mark.Mark.{Mark as a_mark};
 
+use crate::mark::Mark;
 use crate::steps::Steps;
 use crate::store_row::{SharedRow, Spot, StoreRow};
 use hse_io::NoMemory;
@@ -33,6 +36,13 @@ pub(crate) trait Part: Drop + Sized {
 
     /// How many steps one more row takes at most.
     ghost cost: { ℕ };
+
+    /// The mark of the first row.
+    ghost marked: { Self → a_mark };
+
+    /// The mark of the first row.
+    fn mark(&self) -> Mark
+        ensures { result ≡ marked self.now };
 
     /// How many rows there are.
     fn count(&self) -> u64
@@ -84,6 +94,9 @@ pub(crate) trait Part: Drop + Sized {
     ghost has_rows: { (part : Self) → filled part → weight ≤ length (rows part) };
 
     ghost begins: { (part : Self) → sound part → 0 < length (rows part) };
+
+    ghost has_mark: { (part : Self) → sound part → (row : a_row)
+        → slice_get (rows part) 0 ≡ Some row → marked part ≡ mark_of row };
 }
 
 impl Part for SharedRow {
@@ -99,6 +112,10 @@ impl Part for SharedRow {
 
     ghost cost = { 0 };
 
+    ghost use Rattle.ingest_tree.specs.Marks.{mark_of};
+
+    ghost marked = { mark_of };
+
     ghost is_sound = { λ part filled. tt };
 
     ghost use Rattle.std.proofs.Common.{rules};
@@ -106,6 +123,14 @@ impl Part for SharedRow {
     ghost has_rows = { λ part filled. Prim.search rules };
 
     ghost begins = { λ part sound. Prim.search rules };
+
+    ghost use Rattle.ingest_tree.specs.laws.Filling.{lone-mark};
+
+    ghost has_mark = { lone-mark };
+
+    fn mark(&self) -> Mark {
+        self.mark()
+    }
 
     fn count(&self) -> u64 {
         1

@@ -4,13 +4,15 @@ ghost use Rattle.std.specs.List.{AllByRecursion, flat_map};
 ghost use Rattle.std.specs.Ordering.{is_gt};
 ghost use Rattle.ingest_tree.specs.Rows.{AreRising, store_row_cmp, row_at};
 ghost use Rattle.ingest_tree.specs.Parts.{IsChild};
+ghost use Rattle.ingest_tree.specs.Marks.{front_of};
+ghost use Rattle.hse_rows.specs.writes.Change.{change_of};
 
 use crate::part::Part;
 use crate::store_row::Spot;
 use std::cmp::Ordering;
 
-/// Whether a part begins behind a spot.
-fn begins_behind<T: Part>(part: &T, spot: Spot<'_>) -> bool
+/// Whether the first row of a part stands behind a spot.
+fn follows<T: Part>(part: &T, spot: Spot<'_>) -> bool
     requires { T.sound part.now }
     ensures { (row : _) → slice_get (T.rows part.now) 0 ≡ Some row → result
         ≡ is_gt (store_row_cmp row (row_at spot.entry)) }
@@ -22,6 +24,20 @@ fn begins_behind<T: Part>(part: &T, spot: Spot<'_>) -> bool
     }
 }
 
+/// Whether a part begins behind a spot. The marks tell it, unless they are equal.
+fn begins_behind<T: Part>(part: &T, spot: Spot<'_>, front: u64) -> bool
+    requires sound { T.sound part.now }
+    requires front { front ≡ front_of (change_of spot.change) }
+    ensures { (row : _) → slice_get (T.rows part.now) 0 ≡ Some row → result
+        ≡ is_gt (store_row_cmp row (row_at spot.entry)) }
+{
+    match part.mark().order(spot.id, front) {
+        Ordering::Less => false,
+        Ordering::Greater => true,
+        Ordering::Equal => follows(part, spot),
+    }
+}
+
 /// The part that a row at this spot belongs to.
 pub(crate) fn child_at<T: Part>(parts: &[T], spot: Spot<'_>) -> usize
     requires some { 0 < length parts.now }
@@ -29,11 +45,12 @@ pub(crate) fn child_at<T: Part>(parts: &[T], spot: Spot<'_>) -> usize
     requires rising { AreRising (flat_map T.rows parts.now) }
     ensures { IsChild T.rows parts.now (row_at spot.entry) result }
 {
+    let front = spot.front();
     let mut low = 0;
     let mut high = parts.len();
     while high - low > 1 {
         let middle = low + (high - low) / 2;
-        if begins_behind(&parts[middle], spot) {
+        if begins_behind(&parts[middle], spot, front) {
             high = middle;
         } else {
             low = middle;

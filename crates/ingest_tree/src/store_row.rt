@@ -4,9 +4,11 @@ ghost use Rattle.hse_rows.specs.writes.Change.{change_of, target, FitsLimits};
 ghost use Rattle.hse_rows.specs.writes.NormalForm.{rank};
 ghost use Rattle.hse_rows.specs.rows.RowSets.{row_of};
 ghost use Rattle.hse_rows.specs.rows.Newest.{row_cmp};
-ghost use Rattle.ingest_tree.specs.Rows.{row, item_of, store_row_cmp, row_at};
+ghost use Rattle.ingest_tree.specs.Rows.{row_numbered, item_of, store_row_cmp, row_at};
 ghost use Rattle.ingest_tree.specs.StoreRows.{first_at};
+ghost use Rattle.ingest_tree.specs.Marks.{front_of, mark_of};
 
+use crate::mark::{Mark, front_with};
 use hse_io::NoMemory;
 use hse_rows::{ChangeRef, Row, RowRef, StoreId};
 use std::alloc::Global;
@@ -51,7 +53,7 @@ fn rank_of(change: ChangeRef<'_>) -> u8
 
 /// How two changes of one store stand to each other in the order of rows.
 fn order_changes(one: ChangeRef<'_>, other: ChangeRef<'_>) -> Ordering
-    ensures { result ≡ row_cmp (row 0 (change_of one.entry)) (row 0 (change_of other.entry)) }
+    ensures { result ≡ row_cmp (row_numbered 0 (change_of one.entry)) (row_numbered 0 (change_of other.entry)) }
 {
     match rank_of(one).cmp(&rank_of(other)) {
         Ordering::Less => Ordering::Less,
@@ -69,6 +71,13 @@ impl<'a> Spot<'a> {
             id,
             change: ChangeRef::PDel(&[]),
         }
+    }
+
+    /// The rank of the change with the first bytes of its key or prefix.
+    pub fn front(self) -> u64
+        ensures { result ≡ front_of (change_of self.entry.change) }
+    {
+        front_with(rank_of(self.change), target_of(self.change))
     }
 
     /// How it stands to another in the order of rows.
@@ -96,6 +105,16 @@ impl StoreRow {
         }
     }
 
+    /// Its mark.
+    fn mark(&self) -> Mark
+        ensures { result ≡ mark_of self.now }
+    {
+        Mark {
+            id: self.store.0,
+            front: self.spot().front(),
+        }
+    }
+
     /// The row, with its bytes lent.
     pub(crate) fn lent(&self) -> RowRef<'_>
         ensures { row_of result ≡ self.now.row }
@@ -116,10 +135,11 @@ impl StoreRow {
     }
 }
 
-/// A row with its store that several leaves share.
+/// A row with its store that several leaves share, and its mark.
 #[derive(Drop)]
 pub(crate) struct SharedRow {
     row: Arc<StoreRow>,
+    mark: Mark,
 }
 
 impl Model for SharedRow {
@@ -128,16 +148,21 @@ impl Model for SharedRow {
 
     ghost Value = { StoreRow };
 
+    ghost use Rattle.std.specs.Prelude.{◌≡◌};
+    ghost use Rattle.ingest_tree.specs.Marks.{mark_of};
+
     ghost view = { λ s. arc_value s.row };
+
+    ghost invariant = { λ s. s.mark ≡ mark_of (arc_value s.row) };
 }
 
 impl SharedRow {
     pub fn new(alloc: Global, row: StoreRow) -> Result<SharedRow, NoMemory>
         ensures { IfOk result (λ s. s ≡ row) }
     {
-        Ok(SharedRow {
-            row: Arc::new(alloc, row)?,
-        })
+        let mark = row.mark();
+        let row = Arc::new(alloc, row)?;
+        Ok(SharedRow { row, mark })
     }
 
     pub fn row(&self) -> &StoreRow
@@ -146,12 +171,19 @@ impl SharedRow {
         &self.row
     }
 
+    pub fn mark(&self) -> Mark
+        ensures { result ≡ mark_of self.now }
+    {
+        self.mark
+    }
+
     /// One more owner.
     pub fn twin(&self) -> Result<SharedRow, NoMemory>
         ensures { IfOk result (λ s. s ≡ self.now) }
     {
         Ok(SharedRow {
             row: self.row.clone()?,
+            mark: self.mark,
         })
     }
 }

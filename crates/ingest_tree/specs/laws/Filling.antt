@@ -1,10 +1,16 @@
 -- Laws of nodes that are filled and sound.
-use Rattle.std.proofs.Common.{◌≡◌, ℕ, suc, ◌+◌, ◌*◌, ◌<◌, ◌≤◌, List, [], ◌∷◌, length, arith}
+use Rattle.std.proofs.Common.{◌≡◌, ℕ, suc, ◌+◌, ◌*◌, ◌<◌, ◌≤◌, List, [], ◌∷◌, ◌++◌, length, Some, refl, sym, ◌∙◌, ap, arith}
 use Rattle.std.proofs.lemmas.List.{length-append}
 use Rattle.std.proofs.lemmas.Nat.{mul-le}
-use Rattle.std.specs.List.{AllByRecursion, flat_map}
+use Rattle.std.specs.List.{AllByRecursion, flat_map, slice_get}
 use Rattle.ingest_tree.specs.Parts.{Stand, IsSoundNode, IsFilledNode}
 use Rattle.ingest_tree.specs.declared.store_row.StoreRow.{StoreRow}
+use Rattle.ingest_tree.specs.declared.mark.Mark.{Mark}
+use Rattle.ingest_tree.specs.Marks.{mark_of, first_mark}
+
+front-get : {X : Type 0} (xs ys : List X) → 0 < length xs → slice_get (xs ++ ys) 0 ≡ slice_get xs 0
+front-get [] ys some = absurd (omega arith)
+front-get (x ∷ xs) ys some = refl
 
 module _ {X : Type 0} (filled sound : X → Type 0) (is_sound : (part : X) → filled part → sound part) where
   pub all-stand : (ps : List X) → 1 < length ps → AllByRecursion filled ps → Stand filled sound ps
@@ -62,3 +68,15 @@ module _ {X : Type 0} (filled sound : X → Type 0) (is_sound : (part : X) → f
         let least = all-rows weight has ps filled.2 in
         let more = mul-le 64 weight (length ps) weight filled.0 (omega arith) in
         omega (arith, least, more)
+
+    -- the mark of a sound node's first part is that of its first row
+    pub sound-marks : ((part : X) → sound part → 0 < length (rows part)) → (mark : X → Mark)
+        → ((part : X) → sound part → (row : StoreRow) → slice_get (rows part) 0 ≡ Some row → mark part ≡ mark_of row)
+        → (ps : List X) → Stand filled sound ps → (row : StoreRow) → slice_get (flat_map rows ps) 0 ≡ Some row → first_mark mark ps ≡ mark_of row
+    sound-marks begins mark has [] stand row at = absurd stand
+    sound-marks begins mark has (p ∷ ps) stand row at =
+        let sound = (stand-sound (p ∷ ps) stand).0 in
+        has p sound row (sym (front-get (rows p) (flat_map rows ps) (begins p sound)) ∙ at)
+
+pub lone-mark : (row : StoreRow) → Unit {0} → (first : StoreRow) → slice_get (row ∷ []) 0 ≡ Some first → mark_of row ≡ mark_of first
+lone-mark row sound first at = let same : row ≡ first = cc in ap mark_of same

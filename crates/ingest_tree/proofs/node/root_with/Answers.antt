@@ -1,3 +1,5 @@
+use Rattle.std.specs.List.{AllByRecursion}
+use Rattle.ingest_tree.specs.laws.Filling.{stand-sound}
 use Rattle.std.proofs.Common.{◌≡◌, ◌+◌, length, ap, sym, ◌∙◌, subst}
 use Rattle.std.proofs.lemmas.Result.{IfOk-weaker}
 use Rattle.std.specs.List.{flat_map}
@@ -9,6 +11,11 @@ use Rattle.ingest_tree.specs.Parts.{parts_of, Grows, Stand, IsChild}
 use Rattle.ingest_tree.proofs.PartLemmas.{rising-part, with-grown, child-alike}
 use Rattle.ingest_tree.proofs.GrowthLemmas.{all-first, stand-grown}
 use Rattle.ingest_tree.proofs.node.root_with.Goals as goal
+
+pub child_at-at-requires-clause-sound : goal.child_at-at-requires-clause-sound
+child_at-at-requires-clause-sound g c =
+    subst (AllByRecursion g.T.Part.sound) (sym c.parts-parts.ensures)
+    (stand-sound g.T.Part.filled g.T.Part.sound g.met.T.Part.is_sound c.args.root.now c.requires.stands)
 
 pub with-requires-clause-rising : goal.with-requires-clause-rising
 with-requires-clause-rising g c =

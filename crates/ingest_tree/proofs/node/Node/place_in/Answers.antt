@@ -22,7 +22,7 @@ overflow_add-result g c =
     let one = c.counted_before.ensures in
     let two = c.place.ensures in
     let all : length (flat_map rows c.parts-parts.result.now) ≡ c.self.inside.count =
-    ap (λ ps. length (flat_map rows ps)) (c.parts-parts.ensures ∙ sym c.self.view_is) ∙ sym c.self.invariant in
+    ap (λ ps. length (flat_map rows ps)) (c.parts-parts.ensures ∙ sym c.self.view_is) ∙ sym c.self.invariant.0 in
     omega (arith, sum, short, one, two, all, c.self.known-fits)
 
 pub returns : goal.returns

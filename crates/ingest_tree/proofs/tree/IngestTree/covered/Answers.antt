@@ -5,7 +5,7 @@ use Rattle.std.specs.Ordering.{is_eq}
 use Rattle.hse_rows.specs.declared.change.Change.TheVariants.{PDel}
 use Rattle.hse_rows.specs.rows.Meaning.{greater}
 use Rattle.ingest_tree.specs.declared.store_row.StoreRow.{StoreRow}
-use Rattle.ingest_tree.specs.Rows.{row, store_row, store_row_cmp}
+use Rattle.ingest_tree.specs.Rows.{row_numbered, store_row, store_row_cmp}
 use Rattle.ingest_tree.specs.Covered.{covered_below}
 use Rattle.ingest_tree.specs.Tree.{AreTreeRows}
 use Rattle.ingest_tree.proofs.CoverLemmas.{covered-first, covered-last, covered-step}
@@ -29,7 +29,7 @@ loop-length-preserved c =
     c.greater-greatest.ensures
     ∙ (λ i. greater (c.loop-length.invariant i) (option_map (λ (r : StoreRow). r.row.number) (c.find-found.ensures.row i)))
     ∙ ap (λ (p : List ℕ). greater (covered_below id key n rows)
-    (option_map (λ (r : StoreRow). r.row.number) (find (λ r. is_eq (store_row_cmp r (store_row (record { 0 = id }) (row 0 (PDel p))))) rows)))
+    (option_map (λ (r : StoreRow). r.row.number) (find (λ r. is_eq (store_row_cmp r (store_row (record { 0 = id }) (row_numbered 0 (PDel p))))) rows)))
     c.split_at.ensures.front
     ∙ sym (covered-step id key n short rows c.find-found.ensures.rising)
     ∙ ap (λ m. covered_below id key m rows) next
