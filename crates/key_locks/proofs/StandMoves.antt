@@ -21,7 +21,7 @@ use Rattle.hse_rows.specs.laws.Laws.{NormalFormsOverlapTheSame}
 use Rattle.key_locks.specs.declared.locks.KeyLocks.{KeyLocks}
 use Rattle.key_locks.specs.Locks.{writes_of, commits_of, locked}
 use Rattle.key_locks.specs.Since.{has_commit}
-use Rattle.key_locks.specs.Standing.{active_writes, written, StandFor, Leaves, with_lock, without_locks}
+use Rattle.key_locks.specs.Standing.{active_writes, written, StandFor, Leaves, with_locks, without_locks}
 use Rattle.key_locks.specs.laws.Laws.{LockedChangesStand, ReleasesStand, CommitsStand, OtherMovesStand}
 use Rattle.key_locks.proofs.OverlapLemmas.{or-true, or-left, or-right}
 use Rattle.key_locks.proofs.PlaceLemmas.{get-more, get-set, get-set_same, get-set_other}
@@ -102,7 +102,7 @@ module _ (the_same : NormalFormsOverlapTheSame) (old new : KeyLocks) (m : Timeli
           (λ none. some (ap (λ (t : Transaction). t.writes) same.1 ∙ none)))
       by (inr before) = before.1
 
-  locked_in : (store : StoreId) (change : Change) → Leaves old new (with_lock old order (locked store change)) (commits_of old)
+  locked_in : (store : StoreId) (change : Change) → Leaves old new (with_locks old order (locked store change ∷ [])) (commits_of old)
       → StandFor new (with_transaction m order (staged transaction (write_of store change))) above
   locked_in store change left =
       let changed : Transaction = staged transaction (write_of store change) in
