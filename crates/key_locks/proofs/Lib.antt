@@ -15,4 +15,6 @@ pub mod PutLemmas
 pub mod PlaceLemmas
 pub mod StandLemmas
 pub mod StandMoves
+pub mod OtherMoves
+pub mod FirstLemmas
 pub mod ConflictLemmas

@@ -1,7 +1,9 @@
 -- Locks that stand for a timeline go on standing.
-use Rattle.std.proofs.Common.{◌≡◌, ◌≢◌, ℕ, ◌+◌, ◌-◌, ◌<◌, ◌==◌, ◌&&◌, ◌||◌, Bool, true, false, cond, nat_lt, List, [], ◌∷◌, ◌++◌, length, Some, refl, sym, ◌∙◌, ap, ◌⊎◌, inl, inr, arith}
+use Rattle.std.proofs.Common.{◌≡◌, ◌≢◌, ℕ, ◌+◌, ◌-◌, ◌<◌, ◌==◌, ◌&&◌, ◌||◌, Bool, true, false, cond, nat_lt, List, [], ◌∷◌, ◌++◌, length, take, Some, refl, sym, ◌∙◌, ap, ◌⊎◌, inl, inr, arith}
 use Rattle.std.specs.List.{slice_get}
 use Rattle.std.proofs.Math.Bool.{true≢false}
+use Rattle.std.proofs.Math.Seq.{take-append_seam}
+use Rattle.std.proofs.lemmas.List.{length-append}
 use Rattle.std.proofs.lemmas.Option.{slice_get_past}
 use Rattle.hse_rows.specs.declared.write.Write.{Write}
 use Rattle.hse_rows.specs.writes.NormalForm.{normal_form}
@@ -16,7 +18,7 @@ use Rattle.key_locks.specs.Locks.{writes_of, commits_of}
 use Rattle.key_locks.specs.Logged.{without_old}
 use Rattle.key_locks.specs.Since.{has_commit}
 use Rattle.key_locks.specs.Standing.{active_writes, written, written_by, StandFor}
-use Rattle.key_locks.specs.laws.Laws.{EmptyLocksStand, UnchangedLocksStand, PrunedLocksStand}
+use Rattle.key_locks.specs.laws.Laws.{EmptyLocksStand, UnchangedLocksStand, PrunedLocksStand, UndoneChangesStand}
 use Rattle.key_locks.proofs.PlaceLemmas.{get-more}
 
 pub empty-stand : EmptyLocksStand
@@ -66,6 +68,27 @@ pruned-stand old new m above stand least logged bound held = record {
       let past : above < number = omega (arith, less) in
       ap (has_commit write number) logged ∙ pruned-has write number least (commits_of old) late ∙ stand.logged number write past of_one over;
 }
+
+-- ---- changes that are taken back
+
+undone : {X : Type 0} (xs ys : List X) → take (length (xs ++ ys) - length ys) (xs ++ ys) ≡ xs
+undone xs ys =
+    let count : length (xs ++ ys) - length ys ≡ length xs =
+    (let is : length (xs ++ ys) ≡ length xs + length ys = length-append xs ys in omega (arith, is)) in
+    ap (λ (n : ℕ). take n (xs ++ ys)) count ∙ take-append_seam xs ys
+
+pub undone-stand : UndoneChangesStand
+undone-stand old mid new m above stand order writes took left =
+    unchanged-stand old new m above stand (record {
+      held = λ other. left.held other ∙ by other (other == order) (took.held other);
+      logged = left.logged ∙ took.logged;
+      least = left.least ∙ took.least;
+    })
+  where
+    by : (other : ℕ) (b : Bool) → writes_of mid other ≡ cond b (writes_of old other ++ writes) (writes_of old other)
+        → cond b (take (length (writes_of mid other) - length writes) (writes_of mid other)) (writes_of mid other) ≡ writes_of old other
+    by other true is = ap (λ (all : List Write). take (length all - length writes) all) is ∙ undone (writes_of old other) writes
+    by other false is = is
 
 -- ---- a timeline that went on
 

@@ -1,10 +1,9 @@
 -- Locks stand for a timeline after what is done with its transactions.
-use Rattle.std.proofs.Common.{◌≡◌, ◌≢◌, ℕ, ◌+◌, ◌-◌, ◌==◌, ◌&&◌, ◌||◌, Bool, true, false, cond, map, List, [], ◌∷◌, ◌++◌, length, set, Option, Some, None, refl, sym, ◌∙◌, ap, subst, ◌⊎◌, inl, inr, arith}
+use Rattle.std.proofs.Common.{◌≡◌, ◌≢◌, ℕ, ◌+◌, ◌==◌, ◌&&◌, ◌||◌, Bool, true, false, cond, map, List, [], ◌∷◌, ◌++◌, set, Option, Some, refl, sym, ◌∙◌, ap, subst, ◌⊎◌, inl, inr}
 use Rattle.std.specs.List.{slice_get}
 use Rattle.std.proofs.Math.Bool.{true≢false}
 use Rattle.std.proofs.lemmas.Bool.{cases_eq, eq-eqb, eqb-true}
 use Rattle.std.proofs.lemmas.List.Folds.{list_any-append}
-use Rattle.std.proofs.lemmas.Option.{slice_get_past, same_Some}
 use Rattle.hse_rows.specs.declared.change.Change.{Change}
 use Rattle.hse_rows.specs.declared.change.Change.TheVariants.{Put, Del, PDel}
 use Rattle.hse_rows.specs.declared.store.StoreId.{StoreId}
@@ -12,20 +11,18 @@ use Rattle.hse_rows.specs.declared.write.Write.{Write}
 use Rattle.hse_rows.specs.writes.Change.{write_of}
 use Rattle.hse_rows.specs.writes.NormalForm.{normal_form}
 use Rattle.hse_rows.specs.writes.Overlap.{overlaps, overlaps_some}
-use Rattle.hse_rows.specs.states.History.{Event, commits, creates, drops}
-use Rattle.hse_rows.specs.transactions.Transaction.{TransactionState, active, committed, aborted, Transaction, is_active, begins, staged, ended}
-use Rattle.hse_rows.specs.transactions.Timeline.{Timeline, number_of, transaction_of, IsActive, for_some, with_transaction, committing, with_event}
-use Rattle.hse_rows.specs.transactions.Isolation.{IsCommitted, IsIsolated}
-use Rattle.hse_rows.specs.transactions.Sources.{IsOfTransaction}
+use Rattle.hse_rows.specs.states.History.{commits}
+use Rattle.hse_rows.specs.transactions.Transaction.{TransactionState, active, committed, aborted, Transaction, is_active, staged, ended}
+use Rattle.hse_rows.specs.transactions.Timeline.{Timeline, number_of, transaction_of, IsActive, for_some, with_transaction, committing}
 use Rattle.hse_rows.specs.laws.Laws.{NormalFormsOverlapTheSame}
 use Rattle.key_locks.specs.declared.locks.KeyLocks.{KeyLocks}
 use Rattle.key_locks.specs.Locks.{writes_of, commits_of, locked}
 use Rattle.key_locks.specs.Since.{has_commit}
-use Rattle.key_locks.specs.Standing.{active_writes, written, StandFor, Leaves, with_lock, without_locks}
-use Rattle.key_locks.specs.laws.Laws.{LockedChangesStand, ReleasesStand, CommitsStand, OtherMovesStand}
+use Rattle.key_locks.specs.Standing.{active_writes, StandFor, Leaves, with_locks, without_locks}
+use Rattle.key_locks.specs.laws.Laws.{LockedChangesStand, ReleasesStand, CommitsStand}
 use Rattle.key_locks.proofs.OverlapLemmas.{or-true, or-left, or-right}
-use Rattle.key_locks.proofs.PlaceLemmas.{get-more, get-set, get-set_same, get-set_other}
-use Rattle.key_locks.proofs.StandLemmas.{wrote, stand-same, stand-more}
+use Rattle.key_locks.proofs.PlaceLemmas.{get-set, get-set_same, get-set_other}
+use Rattle.key_locks.proofs.StandLemmas.{stand-same, stand-more}
 
 is_no : (a b : ℕ) → (a ≡ b → ⊥) → (c : Bool) → (a == b) ≡ c → (a == b) ≡ false
 is_no a b apart true is = absurd (apart (eqb-true a b is))
@@ -49,7 +46,7 @@ has-map write n number false is (w ∷ ws) =
     ap (λ (b : Bool). (b && overlaps write w) || has_commit write number (map (λ (w : Write). (n, w)) ws)) is
     ∙ has-map write n number false is ws
 
-active_is_not : (number : ℕ) → active ≡ committed number → ⊥
+pub active_is_not : (number : ℕ) → active ≡ committed number → ⊥
 active_is_not number is = cc
 
 aborted_is_not : (number : ℕ) → aborted ≡ committed number → ⊥
@@ -102,7 +99,7 @@ module _ (the_same : NormalFormsOverlapTheSame) (old new : KeyLocks) (m : Timeli
           (λ none. some (ap (λ (t : Transaction). t.writes) same.1 ∙ none)))
       by (inr before) = before.1
 
-  locked_in : (store : StoreId) (change : Change) → Leaves old new (with_lock old order (locked store change)) (commits_of old)
+  locked_in : (store : StoreId) (change : Change) → Leaves old new (with_locks old order (locked store change ∷ [])) (commits_of old)
       → StandFor new (with_transaction m order (staged transaction (write_of store change))) above
   locked_in store change left =
       let changed : Transaction = staged transaction (write_of store change) in
@@ -208,64 +205,3 @@ module _ (the_same : NormalFormsOverlapTheSame) where
   committed-stand old new m above stand order transaction is some left =
       at_order the_same old new m above stand order transaction is (λ t. committing m order t t.writes)
       (committed_in the_same old new m above stand order transaction is left transaction.writes some)
-
-  -- ---- other moves
-
-  module _ (locks : KeyLocks) (m : Timeline) (above : ℕ) (stand : StandFor locks m above) where
-    begun_active : (order : ℕ) (write : Write) → overlaps_some write (writes_of locks order)
-        ≡ overlaps_some write (active_writes (slice_get (m.begun ++ begins (length m.begun) (number_of m) ∷ []) order))
-    begun_active order write = by (get-more m.begun (begins (length m.begun) (number_of m)) order)
-      where
-        by : ((order ≢ length m.begun) × (slice_get (m.begun ++ begins (length m.begun) (number_of m) ∷ []) order ≡ slice_get m.begun order))
-            ⊎ ((order ≡ length m.begun) × (slice_get (m.begun ++ begins (length m.begun) (number_of m) ∷ []) order ≡ Some (begins (length m.begun) (number_of m))))
-            → overlaps_some write (writes_of locks order)
-            ≡ overlaps_some write (active_writes (slice_get (m.begun ++ begins (length m.begun) (number_of m) ∷ []) order))
-        by (inl before) =
-            stand.active order write ∙ ap (λ (found : Option Transaction). overlaps_some write (active_writes found)) (sym before.1)
-        by (inr last) =
-            stand.active order write
-            ∙ ap (λ (found : Option Transaction). overlaps_some write (active_writes found)) (slice_get_past m.begun order (let at = last.0 in omega (arith, at)))
-            ∙ ap (λ (found : Option Transaction). overlaps_some write (active_writes found)) (sym last.1)
-
-    begun_kept : (order number : ℕ) (other : Transaction) → slice_get (m.begun ++ begins (length m.begun) (number_of m) ∷ []) order ≡ Some other
-        → other.state ≡ committed number → other.writes ≢ [] → slice_get m.begun order ≡ Some other
-    begun_kept order number other at did some = by (get-more m.begun (begins (length m.begun) (number_of m)) order)
-      where
-        by : ((order ≢ length m.begun) × (slice_get (m.begun ++ begins (length m.begun) (number_of m) ∷ []) order ≡ slice_get m.begun order))
-            ⊎ ((order ≡ length m.begun) × (slice_get (m.begun ++ begins (length m.begun) (number_of m) ∷ []) order ≡ Some (begins (length m.begun) (number_of m))))
-            → slice_get m.begun order ≡ Some other
-        by (inl before) = sym before.1 ∙ at
-        by (inr last) =
-            let same : begins (length m.begun) (number_of m) ≡ other = same_Some (begins (length m.begun) (number_of m)) other (sym last.1 ∙ at) in
-            absurd (active_is_not number (ap (λ (t : Transaction). t.state) same ∙ did))
-
-    begun_stand : StandFor locks (record { base = m.base; history = m.history; begun = m.begun ++ begins (length m.begun) (number_of m) ∷ [] }) above
-    begun_stand = stand-same the_same locks locks m above stand refl (m.begun ++ begins (length m.begun) (number_of m) ∷ []) begun_active refl begun_kept
-
-    event_stand : (event : Event)
-        → ((write : Write) → IsOfTransaction (with_event m event) (number_of m + 1) (written (Some event)) → overlaps_some write (written (Some event)) ≡ true → ⊥)
-        → StandFor locks (with_event m event) above
-    event_stand event never =
-        stand-more the_same locks locks m above stand refl m.begun stand.active event
-        (λ number write has. inl has) (λ number write has. has) (λ order number other at did some. inl at)
-        (λ write of_one over. absurd (never write of_one over))
-
-    no_commit : IsIsolated m → (event : Event) (write : Write) → IsOfTransaction (with_event m event) (number_of m + 1) (written (Some event))
-        → overlaps_some write (written (Some event)) ≡ true → ⊥
-    no_commit isolated event write of_one over =
-        let recorded : IsCommitted m.base m.history of_one.transaction.writes (committed (number_of m + 1)) =
-        subst (IsCommitted m.base m.history of_one.transaction.writes) of_one.did (isolated.each of_one.order of_one.transaction of_one.at).recorded in
-        let there = recorded (wrote the_same write (written (Some event)) of_one.transaction of_one.form over) in
-        none_is (sym (slice_get_past m.history (number_of m + 1 - (m.base.number + 1)) (omega arith)) ∙ there.1)
-      where
-        none_is : None ≡ Some (commits (normal_form of_one.transaction.writes)) → ⊥
-        none_is at = cc
-
-  pub others-stand : OtherMovesStand
-  others-stand locks m above stand = (
-    begun_stand locks m above stand,
-    λ isolated write. event_stand locks m above stand (commits (normal_form (write ∷ [])))
-        (no_commit locks m above stand isolated (commits (normal_form (write ∷ [])))),
-    λ name mode prefix_length. event_stand locks m above stand (creates name mode prefix_length) (λ write of_one over. true≢false (sym over)),
-    λ id. event_stand locks m above stand (drops id) (λ write of_one over. true≢false (sym over)),
-  )

@@ -1,5 +1,5 @@
 -- How locks stand for a timeline of the machine: its active transactions hold them, and its commits are logged.
-use Rattle.std.specs.Prelude.{◌≡◌, ℕ, ◌<◌, ◌≤◌, ◌==◌, true, cond, List, [], ◌++◌, ◌∷◌, Option, Some, None, Result, Ok, Err}
+use Rattle.std.specs.Prelude.{◌≡◌, ℕ, ◌<◌, ◌≤◌, ◌==◌, ◌-◌, true, cond, List, [], ◌++◌, length, take, Option, Some, None, Result, Ok, Err}
 use Rattle.hse_rows.specs.declared.write.Write.{Write}
 use Rattle.hse_rows.specs.states.History.{Event, commits, creates, drops}
 use Rattle.hse_rows.specs.writes.Overlap.{overlaps_some}
@@ -60,9 +60,14 @@ pub record Leaves (old new : KeyLocks) (writes : ℕ → List Write) (log : List
   pub logged : commits_of new ≡ log
   pub least : new.least ≡ old.least
 
--- one write of a transaction more
-abbrev pub with_lock : KeyLocks → ℕ → Write → ℕ → List Write
-with_lock locks txn write other = cond (other == txn) (writes_of locks other ++ write ∷ []) (writes_of locks other)
+-- these writes of a transaction more
+abbrev pub with_locks : KeyLocks → ℕ → List Write → ℕ → List Write
+with_locks locks txn writes other = cond (other == txn) (writes_of locks other ++ writes) (writes_of locks other)
+
+-- all but the last of a transaction, so many
+abbrev pub without_last : KeyLocks → ℕ → ℕ → ℕ → List Write
+without_last locks txn count other =
+    cond (other == txn) (take (length (writes_of locks other) - count) (writes_of locks other)) (writes_of locks other)
 
 -- all but those of a transaction
 abbrev pub without_locks : KeyLocks → ℕ → ℕ → List Write

@@ -2,6 +2,7 @@
 ghost use Rattle.key_locks.specs.laws.Laws.{CommitsStand, EmptyLocksStand, LockedChangesStand};
 ghost use Rattle.key_locks.specs.laws.Laws.{LocksAnswerTheConflict, OtherMovesStand};
 ghost use Rattle.key_locks.specs.laws.Laws.{PrunedLocksStand, ReleasesStand, UnchangedLocksStand};
+ghost use Rattle.key_locks.specs.laws.Laws.{UndoneChangesStand};
 
 use hse_rows::{conflicts_are_of_transactions, normal_forms_overlap_the_same};
 
@@ -13,12 +14,17 @@ pub fn locks_answer_the_conflict()
     conflicts_are_of_transactions();
 }
 
-/// Empty locks stand for a timeline that was just opened, and after a prune locks stand from its
-/// number on. Where a call leaves all as it was, they stand as before.
-pub fn locks_stand_from_the_opening()
-    ensures empty { EmptyLocksStand }
+/// Empty locks stand for a timeline that was just opened.
+pub fn empty_locks_stand()
+    ensures { EmptyLocksStand }
+{}
+
+/// After a prune locks stand from its number on. Where a call leaves all as it was, and where an
+/// `undo` takes back what `try_lock` took, they stand as before.
+pub fn locks_stand_as_before()
     ensures pruned { PrunedLocksStand }
     ensures same { UnchangedLocksStand }
+    ensures undone { UndoneChangesStand }
 {}
 
 /// What `try_lock` took stands for the write. A begin, a creation, a drop and a write outside of

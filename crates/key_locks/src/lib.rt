@@ -17,8 +17,8 @@ mod search;
 mod table;
 
 pub use laws::{
-    locks_answer_the_conflict, locks_stand_after_ends, locks_stand_after_moves,
-    locks_stand_from_the_opening,
+    empty_locks_stand, locks_answer_the_conflict, locks_stand_after_ends, locks_stand_after_moves,
+    locks_stand_as_before,
 };
 pub use lock_fault::LockFault;
 pub use locks::KeyLocks;

@@ -1,5 +1,5 @@
 -- Laws of locks that stand for a timeline, each the clause of a function of `src/laws.rt`.
-use Rattle.std.specs.Prelude.{◌≡◌, ◌≢◌, ℕ, ◌+◌, ◌≤◌, List, [], ◌++◌, map, max, Result}
+use Rattle.std.specs.Prelude.{◌≡◌, ◌≢◌, ℕ, ◌+◌, ◌≤◌, List, [], ◌++◌, ◌∷◌, length, map, max, Result}
 use Rattle.hse_rows.specs.declared.change.Change.{Change}
 use Rattle.hse_rows.specs.declared.store.Mode.{Mode}
 use Rattle.hse_rows.specs.declared.store.Mode.TheVariants.{Tx}
@@ -18,7 +18,7 @@ use Rattle.key_locks.specs.declared.locks.KeyLocks.{KeyLocks}
 use Rattle.key_locks.specs.Answers.{IsAnswer}
 use Rattle.key_locks.specs.Locks.{writes_of, commits_of, locked}
 use Rattle.key_locks.specs.Logged.{without_old}
-use Rattle.key_locks.specs.Standing.{StandFor, Tells, Leaves, with_lock, without_locks}
+use Rattle.key_locks.specs.Standing.{StandFor, Tells, Leaves, with_locks, without_last, without_locks}
 
 -- What cancels a write to a `tx` store of the snapshot is what the machine says.
 abbrev pub LocksAnswerTheConflict : Type 0
@@ -48,8 +48,15 @@ LockedChangesStand =
     (old new : KeyLocks) (m : Timeline) (above : ℕ) → StandFor old m above
     → (order : ℕ) (transaction : Transaction) → IsActive m order transaction
     → (store : StoreId) (change : Change)
-    → Leaves old new (with_lock old order (locked store change)) (commits_of old)
+    → Leaves old new (with_locks old order (locked store change ∷ [])) (commits_of old)
     → StandFor new (moved m (write_in order (write_of store change))) above
+
+-- Changes that were locked and taken back leave what was there.
+abbrev pub UndoneChangesStand : Type 0
+UndoneChangesStand =
+    (old mid new : KeyLocks) (m : Timeline) (above : ℕ) → StandFor old m above
+    → (order : ℕ) (writes : List Write) → Leaves old mid (with_locks old order writes) (commits_of old)
+    → Leaves mid new (without_last mid order (length writes)) (commits_of mid) → StandFor new m above
 
 -- A release is an abort, or a commit without a write.
 abbrev pub ReleasesStand : Type 0

@@ -1,4 +1,5 @@
-use Rattle.key_locks.proofs.StandMoves.{locked-stand, others-stand}
+use Rattle.key_locks.proofs.OtherMoves.{others-stand}
+use Rattle.key_locks.proofs.StandMoves.{locked-stand}
 use Rattle.key_locks.proofs.laws.locks_stand_after_moves.Goals as goal
 
 pub returns-clause-locked : goal.returns-clause-locked
