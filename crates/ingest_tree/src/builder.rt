@@ -56,6 +56,7 @@ impl<T: Part> Builder<T> {
             ≡ (self.old.first.items ++ self.old.second.items) ++ parts.now) }
         ensures cut { self.new.cut ≡ self.old.cut }
         ensures cost { steps.new ≤ steps.old + length parts.now }
+        ensures ticks { OnOk result (steps.new ≡ steps.old + length parts.now) }
     {
         for part in parts {
             self.put(part.share()?, steps)?;
@@ -73,6 +74,7 @@ impl<T: Part> Builder<T> {
             ≡ (self.old.first.items ++ self.old.second.items) ++ parts_of grown.0 grown.1) }
         ensures cut { self.new.cut ≡ self.old.cut }
         ensures cost { steps.new ≤ steps.old + length (parts_of grown.0 grown.1) }
+        ensures ticks { OnOk result (steps.new ≡ steps.old + length (parts_of grown.0 grown.1)) }
     {
         let (part, other) = grown;
         self.put(part, steps)?;
@@ -97,6 +99,8 @@ pub(crate) fn rebuilt<T: Part, L: Ledger>(
         ≡ take at parts.now ++ parts_of grown.0 grown.1 ++ drop (suc at) parts.now) }
     ensures cut { IfOk result (λ builder. builder.cut ≡ cut) }
     ensures cost { steps.new ≤ steps.old + (length parts.now + 1) }
+    ensures ticks { OnOk result (steps.new + 1
+        ≡ steps.old + (length parts.now + length (parts_of grown.0 grown.1))) }
 {
     let (before, rest) = parts.split_at(at);
     let (_, behind) = rest.split_at(1);
