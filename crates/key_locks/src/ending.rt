@@ -1,5 +1,5 @@
 //! The ends of transactions.
-ghost use Rattle.std.specs.Prelude.{◌≡◌, ◌==◌, ◌+◌, ◌≤◌, ℕ, [], ◌++◌, cond, length, map, OnOk};
+ghost use Rattle.std.specs.Prelude.{◌≡◌, ◌==◌, ◌+◌, ◌≤◌, ℕ, [], ◌++◌, ◌<◌, cond, length, map, OnOk, OnErr};
 ghost use Rattle.hse_rows.specs.declared.write.Write.{Write as a_write};
 ghost use Rattle.key_locks.specs.Locks.{commits_of, spare_of, writes_of};
 
@@ -45,6 +45,7 @@ impl KeyLocks {
         ensures commits { commits_of self.new ≡ commits_of self.old }
         ensures least { self.new.least ≡ self.old.least }
         ensures spare { spare_of self.old ≤ spare_of self.new }
+        ensures full { OnErr result (spare_of self.old < length (writes_of self.old txn)) }
     {
         let count = name_count(&self.held, txn);
         self.logged.reserve(count as usize)?;
