@@ -23,9 +23,10 @@ impl KeyLocks {
         self.least = self.least.max(least);
     }
 
-    /// Takes back the last `count` changes that a transaction locked. A name that an earlier change
-    /// of it has stays locked. It takes no memory.
+    /// Takes back the last `count` changes that a transaction locked; the condition is that there
+    /// are so many. A name that an earlier change of it has stays locked. It takes no memory.
     pub fn undo(&mut self, txn: u64, count: u64)
+        requires { count ≤ length (writes_of self.old txn) }
         ensures writes { (other : ℕ) → writes_of self.new other
             ≡ cond (other == txn) (take (length (writes_of self.old other) - count) (writes_of self.old other)) (writes_of self.old other) }
         ensures commits { commits_of self.new ≡ commits_of self.old }
