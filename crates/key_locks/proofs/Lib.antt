@@ -1,3 +1,4 @@
+pub mod KeptLemmas
 pub mod NameLemmas
 pub mod TableLemmas
 pub mod SeenLemmas

@@ -1,5 +1,5 @@
 //! The ends of transactions.
-ghost use Rattle.std.specs.Prelude.{◌≡◌, ◌==◌, ◌+◌, ◌≤◌, ℕ, [], ◌++◌, cond, length, map, OnOk};
+ghost use Rattle.std.specs.Prelude.{◌≡◌, ◌==◌, ◌+◌, ◌≤◌, ℕ, [], ◌++◌, ◌<◌, cond, length, map, OnOk, OnErr};
 ghost use Rattle.hse_rows.specs.declared.write.Write.{Write as a_write};
 ghost use Rattle.key_locks.specs.Locks.{commits_of, spare_of, writes_of};
 
@@ -38,20 +38,24 @@ impl KeyLocks {
         }
     }
 
-    /// Makes room for the commit of a transaction.
+    /// Makes room for the commit of a transaction. The room is one for all commits: what was made
+    /// for two transactions is enough for the greater one, not for both. `NoMemory` comes only where
+    /// there was less room than changes; locks and commits stay as they were.
     pub fn reserve_commit(&mut self, txn: u64) -> Result<(), NoMemory>
         ensures room { OnOk result (length (writes_of self.new txn) ≤ spare_of self.new) }
         ensures writes { (other : ℕ) → writes_of self.new other ≡ writes_of self.old other }
         ensures commits { commits_of self.new ≡ commits_of self.old }
         ensures least { self.new.least ≡ self.old.least }
         ensures spare { spare_of self.old ≤ spare_of self.new }
+        ensures full { OnErr result (spare_of self.old < length (writes_of self.old txn)) }
     {
         let count = name_count(&self.held, txn);
         self.logged.reserve(count as usize)?;
         Ok(())
     }
 
-    /// A transaction commits with this number. It takes no memory.
+    /// A transaction commits with this number. The condition is room for its changes, which
+    /// `reserve_commit` makes; each change uses one place of it. It takes no memory.
     pub fn commit(&mut self, txn: u64, number: u64)
         requires { length (writes_of self.old txn) ≤ spare_of self.old }
         ensures writes { (other : ℕ) → writes_of self.new other ≡ cond (other == txn) [] (writes_of self.old other) }

@@ -116,9 +116,11 @@ impl KeyLocks {
         }
     }
 
-    /// Takes the lock of a change for a transaction. `Held` comes exactly where other transactions
-    /// have a write that overlaps, with the first begun; `Since` exactly where none has, and
-    /// commits after the snapshot wrote what overlaps, with the first of these.
+    /// Takes the lock of a change for a transaction, whose number rises with its begin. `Held` comes
+    /// exactly where other transactions have a write that overlaps, with the least number, the first
+    /// begun; `Since` exactly where none has, and commits after the snapshot wrote what overlaps,
+    /// with the least number. `NoMemory` comes only for want of memory. A fault changes nothing. The
+    /// condition is that the snapshot is at least the greatest number pruned to.
     pub fn try_lock(
         &mut self,
         alloc: Global,

@@ -1,5 +1,6 @@
 //! Locks: overlaps of any lengths, commits since a snapshot, and changes that are taken back.
-ghost use Rattle.std.specs.Prelude.{◌≡◌, ◌≤◌};
+ghost use Rattle.std.specs.Prelude.{◌≡◌, ◌≤◌, ◌+◌, length, None, Ok};
+ghost use Rattle.key_locks.specs.Locks.{writes_of};
 
 use hse_rows::{Change, Key, Prefix, StoreId};
 use key_locks::{KeyLocks, LockFault};
@@ -16,7 +17,8 @@ fn lock_key(
     key: &[u8],
 ) -> Result<Option<LockFault>, Fail>
     requires { locks.old.least ≤ snapshot }
-    ensures { locks.new.least ≡ locks.old.least }
+    ensures least { locks.new.least ≡ locks.old.least }
+    ensures more { result ≡ Ok None → length (writes_of locks.new txn) ≡ length (writes_of locks.old txn) + 1 }
 {
     let change = Change::Del(Key::new(alloc, key)?);
     match locks.try_lock(alloc, txn, snapshot, StoreId(1), &change) {

@@ -3,6 +3,8 @@ use Rattle.key_locks.specs.Agrees.{CommitsAgree}
 use Rattle.key_locks.specs.Logged.{logged_write}
 use Rattle.key_locks.proofs.MoveLemmas.{lengths-kept, knows-lengths, locks-agree}
 use Rattle.key_locks.proofs.UndoLemmas.{commits-pruned, without-map}
+use Rattle.key_locks.proofs.KeptLemmas.{kept}
+use Rattle.key_locks.specs.Since.{has_commit}
 use Rattle.key_locks.proofs.locks.KeyLocks.prune.Goals as goal
 
 pub invariant_of-self : goal.invariant_of-self
@@ -28,5 +30,7 @@ invariant_of-self c =
 pub returns-clause-commits : goal.returns-clause-commits
 returns-clause-commits c = ap (map logged_write) c.forget.ensures.logged ∙ without-map c.args.least c.args.self.now.logged.items
 
-pub returns-clause-spare : goal.returns-clause-spare
-returns-clause-spare c = let room = c.forget.ensures.room in let len = c.forget.ensures.len in omega (arith, room, len)
+pub returns-clause-kept : goal.returns-clause-kept
+returns-clause-kept c = λ write number above.
+    ap (has_commit write number) (ap (map logged_write) c.forget.ensures.logged ∙ without-map c.args.least c.args.self.now.logged.items)
+    ∙ kept write c.args.least number (omega (arith, above)) (map logged_write c.args.self.now.logged.items)
