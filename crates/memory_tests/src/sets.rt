@@ -2,7 +2,7 @@
 ghost use Rattle.std.specs.Prelude.{◌≡◌, [], IfOk};
 ghost use Rattle.cn_tree.specs.Tree.{in_front};
 
-use cn_tree::{NodePath, Tree};
+use cn_tree::{NodePath, Tree, TreeFault};
 use hse_io::NoMemory;
 use hse_rows::{Change, Key, Prefix, Row, RowRef, RowSet, StoreId, Value};
 use ingest_tree::{IngestTree, StoreRows};
@@ -47,6 +47,26 @@ fn found_in(alloc: Global, set: StoreRows, key: &[u8]) -> Result<Option<u64>, No
     Ok(number_of(tree.find(key)))
 }
 
+/// The nodes of a tree with one set at the root, once its run left, and once it was spilled to a child.
+fn nodes_after(
+    alloc: Global,
+    one: StoreRows,
+    other: StoreRows,
+) -> Result<(u64, u64, u64), TreeFault> {
+    let root = NodePath::root();
+    let tree = tree_of(alloc, one)?;
+    let without = tree.replace_run(alloc, &root, 0, 1, None)?;
+    let Some(child) = root.child(3) else {
+        return Err(TreeFault::NoRun(0));
+    };
+    let mut sets = Vec::new(alloc);
+    if let Err(_) = sets.push((child, other)) {
+        return Err(TreeFault::NoMemory);
+    }
+    let spilled = tree.spill_into(alloc, &root, 1, sets)?;
+    Ok((tree.nodes(), without.nodes(), spilled.nodes()))
+}
+
 /// A merge of one source.
 fn merge_of(alloc: Global, set: StoreRows) -> Result<Merged<StoreRows>, NoMemory> {
     let mut sources = Vec::new(alloc);
@@ -60,6 +80,14 @@ fn a_tree_finds_the_rows_of_its_set(rt: HostRuntime) -> Result<(), Fail> {
     assert_eq!(&rt; found_in(alloc, rows_of(alloc)?, b"a")?, Some(1));
     assert_eq!(&rt; found_in(alloc, rows_of(alloc)?, b"b")?, None);
     assert_eq!(&rt; found_in(alloc, rows_of(alloc)?, b"c")?, None);
+    Ok(())
+}
+
+#[test]
+fn a_run_leaves_its_node_or_is_spilled_to_a_child(rt: HostRuntime) -> Result<(), Fail> {
+    let alloc = rt.alloc();
+    let nodes = nodes_after(alloc, rows_of(alloc)?, rows_of(alloc)?);
+    assert_eq!(&rt; nodes, Ok((1, 0, 1)));
     Ok(())
 }
 
