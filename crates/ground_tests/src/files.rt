@@ -18,6 +18,14 @@ fn folder(rt: &HostRuntime, test: &str) -> Result<String, Fail> {
     Ok(folder)
 }
 
+/// A new file of eight bytes in a folder of its own: the folder and the file.
+fn file_of_eight(rt: &HostRuntime, test: &str) -> Result<(String, String), Fail> {
+    let folder = folder(rt, test)?;
+    let path = format!(in rt.alloc(); "{folder}/device")?;
+    fs::write(rt, path.as_str(), b"abcdefgh".as_slice())?;
+    Ok((folder, path))
+}
+
 fn has_size<D: Disk>(rt: &impl Abort, disk: &mut D, want: u64)
     ensures { D.extent disk.new ≡ want }
 {
@@ -72,9 +80,7 @@ fn a_file_that_another_disk_has_open_is_refused_and_left_alone(
     rt: HostRuntime,
 ) -> Result<(), Fail> {
     let alloc = rt.alloc();
-    let folder = folder(&rt, "locked")?;
-    let path = format!(in alloc; "{folder}/device")?;
-    fs::write(&rt, path.as_str(), b"abcdefgh".as_slice())?;
+    let (folder, path) = file_of_eight(&rt, "locked")?;
     let mut disk = FileDisk::at(&rt, alloc, path.as_str())?;
     holds(&rt, &mut disk, *b"abcdefgh");
     let mut second = FileDisk::at(&rt, alloc, path.as_str())?;
@@ -93,9 +99,7 @@ fn a_file_that_another_disk_has_open_is_refused_and_left_alone(
 #[test]
 fn a_read_past_the_end_of_a_cut_file_is_a_fault(rt: HostRuntime) -> Result<(), Fail> {
     let alloc = rt.alloc();
-    let folder = folder(&rt, "cut")?;
-    let path = format!(in alloc; "{folder}/device")?;
-    fs::write(&rt, path.as_str(), b"abcdefgh".as_slice())?;
+    let (folder, path) = file_of_eight(&rt, "cut")?;
     let mut disk = FileDisk::at(&rt, alloc, path.as_str())?;
     holds(&rt, &mut disk, *b"abcdefgh");
     // Another hand takes the second half away; the disk's size is the one that was told.
@@ -113,9 +117,7 @@ fn a_read_past_the_end_of_a_cut_file_is_a_fault(rt: HostRuntime) -> Result<(), F
 #[test]
 fn a_file_that_holds_something_is_given_no_size(rt: HostRuntime) -> Result<(), Fail> {
     let alloc = rt.alloc();
-    let folder = folder(&rt, "held")?;
-    let path = format!(in alloc; "{folder}/device")?;
-    fs::write(&rt, path.as_str(), b"abcdefgh".as_slice())?;
+    let (folder, path) = file_of_eight(&rt, "held")?;
     // Its size was not asked for, so that the disk takes it for empty.
     let mut disk = FileDisk::at(&rt, alloc, path.as_str())?;
     assert!(rt; disk.set_size(4).is_err());

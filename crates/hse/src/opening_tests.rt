@@ -85,66 +85,45 @@ fn a_device_of_another_size_is_refused(rt: HostRuntime) -> Result<(), Fail> {
     Ok(())
 }
 
-#[test]
-fn each_damaged_field_of_the_region_gives_its_place(rt: HostRuntime) -> Result<(), Fail> {
-    let alloc = rt.alloc();
-    let rows: [(usize, u8, &[u8]); 6] = [
-        // A closed head.
-        (0, 0, b"fault not-formed log-1 0\n"),
-        // A sequence that is none of the region's, and one above the greatest.
-        (8, 2, b"fault not-formed log-1 1\n"),
-        (1, 0x40, b"fault not-formed log-1 1\n"),
-        // A length that passes the region's end, and one that leaves a byte over.
-        (10, 0xff, b"fault not-formed log-1 10\n"),
-        (13, 58, b"fault not-formed log-1 10\n"),
-        // A gate that opens a batch without a count.
-        (71, 0x4f, b"fault not-formed log-1 76\n"),
-    ];
-    for (at, byte, lines) in rows {
-        damaged(&rt, alloc, at, byte, lines)?;
-    }
-    Ok(())
-}
+/// Damaged fields: of the region, of a batch and of a change.
+static DAMAGED: [(usize, u8, &[u8]); 20] = [
+    // A closed head.
+    (0, 0, b"fault not-formed log-1 0\n"),
+    // A sequence that is none of the region's, and one above the greatest.
+    (8, 2, b"fault not-formed log-1 1\n"),
+    (1, 0x40, b"fault not-formed log-1 1\n"),
+    // A length that passes the region's end, and one that leaves a byte over.
+    (10, 0xff, b"fault not-formed log-1 10\n"),
+    (13, 58, b"fault not-formed log-1 10\n"),
+    // A gate that opens a batch without a count.
+    (71, 0x4f, b"fault not-formed log-1 76\n"),
+    // A payload that ends before its last key.
+    (13, 56, b"fault not-formed log-1 70\n"),
+    // No entry; one entry, which leaves the other over; three, of which the last is cut off.
+    (17, 0, b"fault not-formed log-1 14\n"),
+    (17, 1, b"fault not-formed log-1 10\n"),
+    (17, 3, b"fault not-formed log-1 71\n"),
+    // A number that is not the next one, first or later.
+    (25, 3, b"fault not-formed log-1 18\n"),
+    (54, 4, b"fault not-formed log-1 47\n"),
+    // No change; and one more than there is, which begins with the next number.
+    (29, 0, b"fault not-formed log-1 26\n"),
+    (29, 2, b"fault not-formed log-1 47\n"),
+    // An unknown kind, and a prefix delete, of which the store allows no length.
+    (30, 9, b"fault not-formed log-1 30\n"),
+    (30, 3, b"fault not-formed log-1 39\n"),
+    // A key that is empty, and one that is too long.
+    (40, 0, b"fault not-formed log-1 39\n"),
+    (39, 0x7f, b"fault not-formed log-1 39\n"),
+    // A value longer than a line, and one that is cut off.
+    (42, 0xff, b"fault not-formed log-1 42\n"),
+    (45, 200, b"fault not-formed log-1 46\n"),
+];
 
 #[test]
-fn each_damaged_field_of_a_batch_gives_its_place(rt: HostRuntime) -> Result<(), Fail> {
-    let alloc = rt.alloc();
-    let rows: [(usize, u8, &[u8]); 8] = [
-        // A payload that ends before its last key.
-        (13, 56, b"fault not-formed log-1 70\n"),
-        // No entry; one entry, which leaves the other over; three, of which the last is cut off.
-        (17, 0, b"fault not-formed log-1 14\n"),
-        (17, 1, b"fault not-formed log-1 10\n"),
-        (17, 3, b"fault not-formed log-1 71\n"),
-        // A number that is not the next one, first or later.
-        (25, 3, b"fault not-formed log-1 18\n"),
-        (54, 4, b"fault not-formed log-1 47\n"),
-        // No change; and one more than there is, which begins with the next number.
-        (29, 0, b"fault not-formed log-1 26\n"),
-        (29, 2, b"fault not-formed log-1 47\n"),
-    ];
-    for (at, byte, lines) in rows {
-        damaged(&rt, alloc, at, byte, lines)?;
-    }
-    Ok(())
-}
-
-#[test]
-fn each_damaged_field_of_a_change_gives_its_place(rt: HostRuntime) -> Result<(), Fail> {
-    let alloc = rt.alloc();
-    let rows: [(usize, u8, &[u8]); 6] = [
-        // An unknown kind, and a prefix delete, of which the store allows no length.
-        (30, 9, b"fault not-formed log-1 30\n"),
-        (30, 3, b"fault not-formed log-1 39\n"),
-        // A key that is empty, and one that is too long.
-        (40, 0, b"fault not-formed log-1 39\n"),
-        (39, 0x7f, b"fault not-formed log-1 39\n"),
-        // A value longer than a line, and one that is cut off.
-        (42, 0xff, b"fault not-formed log-1 42\n"),
-        (45, 200, b"fault not-formed log-1 46\n"),
-    ];
-    for (at, byte, lines) in rows {
-        damaged(&rt, alloc, at, byte, lines)?;
+fn each_damaged_field_gives_its_place(rt: HostRuntime) -> Result<(), Fail> {
+    for (at, byte, lines) in DAMAGED {
+        damaged(&rt, rt.alloc(), at, byte, lines)?;
     }
     Ok(())
 }

@@ -90,6 +90,23 @@ fn a_put_and_a_deletion_are_stored_in_one_batch(rt: HostRuntime) -> Result<(), F
     Ok(())
 }
 
+/// Runs a script on an empty device, of which these calls fail, and compares what it wrote.
+fn answers_on(
+    rt: &impl Abort,
+    alloc: Global,
+    script: &[u8],
+    fails: &[u64],
+    status: Status,
+    lines: &[u8],
+) -> Result<MemDisk, AllocError> {
+    let mut disk = MemDisk::new(alloc);
+    disk.fail_at(fails.to_vec(alloc)?);
+    let ran = run(alloc, script, Vec::new(alloc), Vec::new(alloc), &mut disk)?;
+    wrote(rt, &ran, status, lines);
+    assert_eq!(rt; disk.refused(), 0);
+    Ok(disk)
+}
+
 /// Runs a script on an empty device and compares what it wrote.
 fn answers(
     rt: &impl Abort,
@@ -98,10 +115,7 @@ fn answers(
     status: Status,
     lines: &[u8],
 ) -> Result<(), AllocError> {
-    let mut disk = MemDisk::new(alloc);
-    let ran = run(alloc, script, Vec::new(alloc), Vec::new(alloc), &mut disk)?;
-    wrote(rt, &ran, status, lines);
-    assert_eq!(rt; disk.refused(), 0);
+    answers_on(rt, alloc, script, &[], status, lines)?;
     Ok(())
 }
 
@@ -163,49 +177,54 @@ pub(crate) fn padded(alloc: Global, front: &[u8], more: usize) -> Result<Vec<u8>
     Ok(line)
 }
 
+/// Runs a line that begins with this front and has so many bytes more.
+fn line_answers(
+    rt: &impl Abort,
+    alloc: Global,
+    front: &[u8],
+    more: usize,
+    lines: &[u8],
+) -> Result<(), AllocError> {
+    let script = padded(alloc, front, more)?;
+    answers(rt, alloc, &script, Status::Done, lines)
+}
+
+static KEY_TOO_LONG: &[u8] = b"opened 1\nerr key-length 1345\nclosed 1\n";
+
 #[test]
 fn a_key_has_at_most_1344_bytes(rt: HostRuntime) -> Result<(), Fail> {
     let alloc = rt.alloc();
-    for front in [b"get @ s ".as_slice(), b"del @ s "] {
-        let long = padded(alloc, front, 1_345)?;
-        let lines = b"opened 1\nerr key-length 1345\nclosed 1\n";
-        answers(&rt, alloc, &long, Status::Done, lines.as_slice())?;
-    }
-    let script = padded(alloc, b"get @ s ", 1_344)?;
-    answers(
+    line_answers(&rt, alloc, b"get @ s ", 1_345, KEY_TOO_LONG)?;
+    line_answers(&rt, alloc, b"del @ s ", 1_345, KEY_TOO_LONG)?;
+    line_answers(
         &rt,
         alloc,
-        &script,
-        Status::Done,
-        b"opened 1\nnone\nclosed 1\n".as_slice(),
+        b"get @ s ",
+        1_344,
+        b"opened 1\nnone\nclosed 1\n",
     )?;
-    let script = padded(alloc, b"del @ s ", 1_344)?;
-    answers(
+    line_answers(
         &rt,
         alloc,
-        &script,
-        Status::Done,
-        b"opened 1\nok 2\nclosed 2\n".as_slice(),
+        b"del @ s ",
+        1_344,
+        b"opened 1\nok 2\nclosed 2\n",
     )?;
     let mut script = padded(alloc, b"put @ s ", 1_345)?;
     script.extend_from_slice(b" 1")?;
-    let lines = b"opened 1\nerr key-length 1345\nclosed 1\n";
-    answers(&rt, alloc, &script, Status::Done, lines.as_slice())?;
+    answers(&rt, alloc, &script, Status::Done, KEY_TOO_LONG)?;
     Ok(())
 }
 
 #[test]
 fn the_log_has_no_room_for_a_value_of_4194181_bytes(rt: HostRuntime) -> Result<(), Fail> {
     let alloc = rt.alloc();
-    let script = padded(alloc, b"put @ s a ", 4_194_181)?;
-    let lines = b"opened 1\nerr log-full 4194241 4194240\nclosed 1\n";
-    answers(&rt, alloc, &script, Status::Done, lines.as_slice())?;
+    let full = b"opened 1\nerr log-full 4194241 4194240\nclosed 1\n";
+    line_answers(&rt, alloc, b"put @ s a ", 4_194_181, full)?;
     // A line whose key is too long as well is refused for its key.
-    let mut script = padded(alloc, b"put @ s ", 1_345)?;
-    script.push(b' ')?;
-    let script = padded(alloc, &script, 4_190_000)?;
-    let lines = b"opened 1\nerr key-length 1345\nclosed 1\n";
-    answers(&rt, alloc, &script, Status::Done, lines.as_slice())?;
+    let mut front = padded(alloc, b"put @ s ", 1_345)?;
+    front.push(b' ')?;
+    line_answers(&rt, alloc, &front, 4_190_000, KEY_TOO_LONG)?;
     Ok(())
 }
 
@@ -274,10 +293,7 @@ fn fails_at(
     call: u64,
     lines: &[u8],
 ) -> Result<(), AllocError> {
-    let mut disk = MemDisk::new(alloc);
-    disk.fail_at([call].as_slice().to_vec(alloc)?);
-    let ran = run(alloc, script, Vec::new(alloc), Vec::new(alloc), &mut disk)?;
-    wrote(rt, &ran, Status::DeviceFault, lines);
+    let disk = answers_on(rt, alloc, script, &[call], Status::DeviceFault, lines)?;
     // Nothing is asked of a device that has failed.
     assert_eq!(rt; disk.calls().len() as u64, call.wrapping_add(1));
     assert_eq!(rt; disk.listed(), 1);

@@ -8,7 +8,7 @@ use Rattle.hse_rows.specs.declared.length_fault.LengthFault.TheVariants as fault
 use Rattle.hse_rows.specs.declared.name.NameFault.TheVariants as name
 use Rattle.hse_rows.specs.writes.Lengths.{IsKeyLength, IsEdgeLength, IsPrefixLength, FitsPrefix}
 use Rattle.hse_rows.specs.writes.Names.{is_name_byte, IsName}
-use Rattle.hse_rows.specs.writes.Refusals.{RefusesKey, RefusesEdge, RefusesValue, RefusesPrefix, RefusesName}
+use Rattle.hse_rows.specs.writes.Refusals.{RefusesLength, RefusesValue, RefusesName}
 use Rattle.hse_rows.specs.writes.Change.{FitsLimits}
 use Rattle.hse_rows.specs.machine.Core.{longest_value}
 use Rattle.hse_rows.proofs.MachineCases.{small}
@@ -28,12 +28,16 @@ a_key_has_1344_bytes_at_most =
     ((some, few), λ is. absurd (omega (arith, is.1)))
 
 an_edge_may_be_empty : IsEdgeLength 0
-an_edge_may_be_empty = omega arith
+an_edge_may_be_empty =
+    let some : 0 ≤ 0 = omega arith in
+    let few : 0 ≤ 1344 = omega arith in
+    (some, few)
 
 an_edge_has_1344_bytes_at_most : IsEdgeLength 1344 × ¬ IsEdgeLength 1345
 an_edge_has_1344_bytes_at_most =
+    let some : 0 ≤ 1344 = omega arith in
     let few : 1344 ≤ 1344 = omega arith in
-    (few, λ is. absurd (omega (arith, is)))
+    ((some, few), λ is. absurd (omega (arith, is.1)))
 
 a_prefix_has_32_bytes_at_most : IsPrefixLength 32 × ¬ IsPrefixLength 33
 a_prefix_has_32_bytes_at_most =
@@ -115,20 +119,20 @@ a_space_is_in_no_name is = absurd (true≢false (sym is.letters))
 
 -- ---- refusals
 
-a_long_key_is_refused_with_its_length : RefusesKey 1345 (fault.Length 1345) × ¬ RefusesKey 1345 (fault.Length 1344)
+a_long_key_is_refused_with_its_length : RefusesLength IsKeyLength 1345 (fault.Length 1345) × ¬ RefusesLength IsKeyLength 1345 (fault.Length 1344)
 a_long_key_is_refused_with_its_length =
     ((refl, λ is. absurd (omega (arith, is.1))), λ refuses. absurd (omega (arith, refuses.0)))
 
-a_key_within_is_refused_for_memory_alone : RefusesKey 1 fault.NoMemory × ¬ RefusesKey 1 (fault.Length 1)
+a_key_within_is_refused_for_memory_alone : RefusesLength IsKeyLength 1 fault.NoMemory × ¬ RefusesLength IsKeyLength 1 (fault.Length 1)
 a_key_within_is_refused_for_memory_alone = (a_key_has_1_byte_or_more.0, λ refuses. refuses.1 a_key_has_1_byte_or_more.0)
 
-a_long_key_is_not_refused_for_memory : ¬ RefusesKey 1345 fault.NoMemory
+a_long_key_is_not_refused_for_memory : ¬ RefusesLength IsKeyLength 1345 fault.NoMemory
 a_long_key_is_not_refused_for_memory = a_key_has_1344_bytes_at_most.1
 
-an_empty_edge_is_not_refused_for_its_length : ¬ RefusesEdge 0 (fault.Length 0)
+an_empty_edge_is_not_refused_for_its_length : ¬ RefusesLength IsEdgeLength 0 (fault.Length 0)
 an_empty_edge_is_not_refused_for_its_length refuses = refuses.1 an_edge_may_be_empty
 
-a_long_edge_is_refused : RefusesEdge 1345 (fault.Length 1345)
+a_long_edge_is_refused : RefusesLength IsEdgeLength 1345 (fault.Length 1345)
 a_long_edge_is_refused = (refl, an_edge_has_1344_bytes_at_most.1)
 
 a_value_above_its_most_is_refused : RefusesValue 65472 65473 (fault.Length 65473)
@@ -139,13 +143,13 @@ a_value_above_its_most_is_refused =
 one_of_its_most_is_not : ¬ RefusesValue 65472 65472 (fault.Length 65472)
 one_of_its_most_is_not refuses = absurd (omega (arith, refuses.1))
 
-a_prefix_longer_than_its_store_s_is_refused : RefusesPrefix 2 3 (fault.Length 3)
+a_prefix_longer_than_its_store_s_is_refused : RefusesLength (FitsPrefix 2) 3 (fault.Length 3)
 a_prefix_longer_than_its_store_s_is_refused = (refl, a_prefix_may_be_as_long_as_its_store_s.2)
 
-a_shorter_one_is_not : ¬ RefusesPrefix 2 1 (fault.Length 1)
+a_shorter_one_is_not : ¬ RefusesLength (FitsPrefix 2) 1 (fault.Length 1)
 a_shorter_one_is_not refuses = refuses.1 a_prefix_may_be_as_long_as_its_store_s.0
 
-every_prefix_is_refused_where_none_is_allowed : RefusesPrefix 0 0 (fault.Length 0)
+every_prefix_is_refused_where_none_is_allowed : RefusesLength (FitsPrefix 0) 0 (fault.Length 0)
 every_prefix_is_refused_where_none_is_allowed = (refl, a_store_without_prefixes_takes_none)
 
 an_empty_name_is_refused : RefusesName [] name.BadName

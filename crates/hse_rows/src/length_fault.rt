@@ -1,6 +1,5 @@
 //! Why bytes were refused that are too few or too many.
 
-use hse_io::NoMemory;
 use thiserror::Error;
 
 /// Why no key, edge, prefix or value was made of bytes.
@@ -11,15 +10,4 @@ pub enum LengthFault {
     Length(u64),
     #[error("out of memory")]
     NoMemory,
-}
-
-impl From<NoMemory> for LengthFault {
-    ghost use Rattle.std.specs.Prelude.{◌≡◌};
-    ghost use Rattle.hse_rows.specs.declared.length_fault.LengthFault.TheVariants.{NoMemory as OutOfMemory};
-
-    ghost from_gives = { λ _ fault. fault ≡ OutOfMemory };
-
-    fn from(_: NoMemory) -> Self {
-        LengthFault::NoMemory
-    }
 }

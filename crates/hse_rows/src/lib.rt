@@ -1,6 +1,7 @@
 //! Rows and changes: keys, values, prefixes and names, and a commit's changes in normal form.
 #![tactic(auto)]
 
+mod bounded;
 mod change;
 mod core_laws;
 mod edge;
@@ -20,6 +21,7 @@ mod value;
 mod write;
 mod write_set;
 
+pub use bounded::Bounded;
 pub use change::{Change, ChangeRef};
 pub use core_laws::{
     answers_lead_one_way, calls_are_recorded, calls_have_one_answer, calls_keep_limits,

@@ -36,7 +36,9 @@ impl Value {
         if bytes.len() as u64 > most {
             return Err(ValueFault::Length(bytes.len() as u64));
         }
-        let bytes = SharedBytes::new(alloc, bytes)?;
+        let Ok(bytes) = SharedBytes::new(alloc, bytes) else {
+            return Err(ValueFault::NoMemory);
+        };
         Ok(Value { bytes })
     }
 

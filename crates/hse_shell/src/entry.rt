@@ -18,6 +18,21 @@ const PUT: u8 = 1;
 /// The first byte of a deletion.
 const DEL: u8 = 2;
 
+/// The pieces of an entry's text: its number, its one change up to the key, and what stands behind the key.
+macro_rules! pieces {
+    ($number:expr, $kind:expr, $key:expr $(, $behind:expr)*) => {
+        &[
+            &$number.to_be_bytes(),
+            &CHANGES.to_be_bytes(),
+            &[$kind],
+            &STORE.to_be_bytes(),
+            &($key.len() as u16).to_be_bytes(),
+            $key,
+            $($behind),*
+        ]
+    };
+}
+
 /// Appends the entry of a put under this number. Where memory is refused nothing is appended.
 pub(crate) fn push_put(
     into: &mut Vec<u8>,
@@ -33,16 +48,7 @@ pub(crate) fn push_put(
 {
     put_pieces(
         into,
-        &[
-            &number.to_be_bytes(),
-            &CHANGES.to_be_bytes(),
-            &[PUT],
-            &STORE.to_be_bytes(),
-            &(key.len() as u16).to_be_bytes(),
-            key,
-            &(value.len() as u32).to_be_bytes(),
-            value,
-        ],
+        pieces!(number, PUT, key, &(value.len() as u32).to_be_bytes(), value),
     )
 }
 
@@ -53,17 +59,7 @@ pub(crate) fn push_del(into: &mut Vec<u8>, number: u64, key: &[u8]) -> Result<()
         (into.new.items ≡ into.old.items ++ entry_text number (del key.now)) }
     ensures unchanged { OnErr result (into.new.items ≡ into.old.items) }
 {
-    put_pieces(
-        into,
-        &[
-            &number.to_be_bytes(),
-            &CHANGES.to_be_bytes(),
-            &[DEL],
-            &STORE.to_be_bytes(),
-            &(key.len() as u16).to_be_bytes(),
-            key,
-        ],
-    )
+    put_pieces(into, pieces!(number, DEL, key))
 }
 
 /// How many bytes of the log's room the entry of a put takes.

@@ -136,15 +136,15 @@ pub fn run_script<S: Source, K: Sink, D: Disk>(
     sink: &mut K,
     disk: &mut D,
 ) -> Outcome
-    // By its status: what was taken and written, as a run of the machine gives it, and what the device holds.
-    ensures ends { Ends D.Device result.status
-        (record { device = disk.old; input = S.remaining source.old; held = K.contents sink.old })
-        (S.remaining source.new) (K.contents sink.new) (K.faults sink.old) (K.faults sink.new) disk.new result.marks.items }
-
     // A fault is told only where the count of its object rose.
     ensures read { result.status ≡ Status.ReadFault → Rose (S.faults source.old) (S.faults source.new) }
     ensures write { result.status ≡ Status.WriteFault → Rose (K.faults sink.old) (K.faults sink.new) }
     ensures device { result.status ≡ Status.DeviceFault → Rose (D.faults disk.old) (D.faults disk.new) }
+
+    // By its status: what was taken and written, as a run of the machine gives it, and what the device holds.
+    ensures ends { Ends D.Device result.status
+        (record { device = disk.old; input = S.remaining source.old; held = K.contents sink.old })
+        (S.remaining source.new) (K.contents sink.new) (K.faults sink.old) (K.faults sink.new) disk.new result.marks.items }
 
     // Where no count rose, lines within their limits on an empty or formed device are run to their end, or memory is
     // refused.

@@ -1,5 +1,4 @@
 //! Why a write got no lock.
-use hse_io::NoMemory;
 use thiserror::Error;
 
 /// What cancels a write, or that there is no memory for its lock.
@@ -14,15 +13,4 @@ pub enum LockFault {
     /// There was no memory; no lock was taken.
     #[error("out of memory")]
     NoMemory,
-}
-
-impl From<NoMemory> for LockFault {
-    ghost use Rattle.std.specs.Prelude.{◌≡◌};
-    ghost use Rattle.key_locks.specs.declared.lock_fault.LockFault.TheVariants.{NoMemory as OutOfMemory};
-
-    ghost from_gives = { λ _ fault. fault ≡ OutOfMemory };
-
-    fn from(_: NoMemory) -> Self {
-        LockFault::NoMemory
-    }
 }

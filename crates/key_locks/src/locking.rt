@@ -103,7 +103,9 @@ impl KeyLocks {
         requires { self.now.least ≤ snapshot }
         ensures { IsAnswer self.now txn snapshot (write_at name.now) result }
     {
-        let seen = seen_of(alloc, &self.table, &self.lengths, name, txn)?;
+        let Ok(seen) = seen_of(alloc, &self.table, &self.lengths, name, txn) else {
+            return Err(LockFault::NoMemory);
+        };
         if let Some(holder) = seen.holder {
             return Err(LockFault::Held(holder));
         }
@@ -138,10 +140,14 @@ impl KeyLocks {
         ensures least { self.new.least ≡ self.old.least }
         ensures spare { spare_of self.new ≡ spare_of self.old }
     {
-        let name = name_of(alloc, store, change)?;
+        let Ok(name) = name_of(alloc, store, change) else {
+            return Err(LockFault::NoMemory);
+        };
         self.check(alloc, txn, snapshot, &name)?;
         use_length(&mut self.lengths, &name);
-        add_name(alloc, &mut self.table, &mut self.held, txn, name)?;
+        let Ok(()) = add_name(alloc, &mut self.table, &mut self.held, txn, name) else {
+            return Err(LockFault::NoMemory);
+        };
         Ok(())
     }
 }

@@ -67,7 +67,7 @@ fn stores_are_listed_line_by_line(rt: HostRuntime) -> Result<(), Fail> {
         let name = StoreName::new(alloc, name)?;
         stores.push(StoreText { name, mode, prefix })?;
     }
-    let stores = StoreTexts::of(stores).into_stores();
+    let stores = StoreTexts::of(stores).into_vec();
     let want = b"> stores 2\nacct tx 0\ns plain 32\n";
     expect_text(&rt, alloc, &Reply::Stores(StoreTexts::of(stores)), want)
 }
@@ -201,7 +201,7 @@ fn refusals_have_their_words(rt: HostRuntime) -> Result<(), Fail> {
 #[test]
 fn an_item_gives_its_bytes_back(rt: HostRuntime) -> Result<(), Fail> {
     let item = Item::of(b"ab".to_vec(rt.alloc())?);
-    assert_eq!(rt; item.bytes(), b"ab".as_slice());
-    assert_eq!(rt; item.into_bytes().as_slice(), b"ab".as_slice());
+    assert_eq!(rt; item.as_slice(), b"ab".as_slice());
+    assert_eq!(rt; item.into_vec().as_slice(), b"ab".as_slice());
     Ok(())
 }

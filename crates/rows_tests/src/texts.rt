@@ -46,16 +46,20 @@ fn told(alloc: Global, line: &[u8]) -> Result<String, Fail> {
         Line::Put(who, store, key, value) => shown(
             alloc,
             "put",
-            &[named(&who), store.bytes(), key.bytes(), value.bytes()],
+            &[named(&who), store.bytes(), key.as_slice(), value.as_slice()],
         ),
         Line::Del(who, store, key) => {
-            shown(alloc, "del", &[named(&who), store.bytes(), key.bytes()])
+            shown(alloc, "del", &[named(&who), store.bytes(), key.as_slice()])
         }
         Line::Pdel(who, store, prefix) => {
-            shown(alloc, "pdel", &[named(&who), store.bytes(), prefix.bytes()])
+            shown(
+                alloc,
+                "pdel",
+                &[named(&who), store.bytes(), prefix.as_slice()],
+            )
         }
         Line::Get(who, store, key) => {
-            shown(alloc, "get", &[named(&who), store.bytes(), key.bytes()])
+            shown(alloc, "get", &[named(&who), store.bytes(), key.as_slice()])
         }
         Line::Sync => shown(alloc, "sync", &[]),
         Line::Info => shown(alloc, "info", &[]),
@@ -72,15 +76,15 @@ fn told_of_names(alloc: Global, line: &Line) -> Result<String, Fail> {
         Line::Abort(transaction) => shown(alloc, "abort", &[transaction.bytes()]),
         Line::Cursor(cursor, who, store, reverse, filter) => {
             let word = if *reverse { "back" } else { "forth" };
-            let of = [cursor.bytes(), named(who), store.bytes(), filter.bytes()];
+            let of = [cursor.bytes(), named(who), store.bytes(), filter.as_slice()];
             shown(alloc, word, &of)
         }
-        Line::Seek(cursor, key) => shown(alloc, "seek", &[cursor.bytes(), key.bytes()]),
+        Line::Seek(cursor, key) => shown(alloc, "seek", &[cursor.bytes(), key.as_slice()]),
         Line::SeekRange(cursor, first, last) => {
             shown(
                 alloc,
                 "range",
-                &[cursor.bytes(), first.bytes(), last.bytes()],
+                &[cursor.bytes(), first.as_slice(), last.as_slice()],
             )
         }
         Line::Read(cursor) => shown(alloc, "read", &[cursor.bytes()]),

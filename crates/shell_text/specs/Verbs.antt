@@ -1,5 +1,5 @@
 -- The first words of lines.
-use Rattle.std.specs.Prelude.{ℕ, List, codes}
+use Rattle.std.specs.Prelude.{ℕ, Bool, true, false, List, codes}
 use Rattle.shell_text.specs.declared.verb.Verb.{Verb}
 use Rattle.shell_text.specs.declared.verb.Verb.TheVariants as verb
 
@@ -27,3 +27,14 @@ verb_word verb.End = codes "end"
 verb_word verb.Sync = codes "sync"
 verb_word verb.Info = codes "info"
 verb_word verb.Reopen = codes "reopen"
+
+-- one name stands behind it, and nothing else
+abbrev pub takes_a_name : Verb → Bool
+takes_a_name verb.DropStore = true
+takes_a_name verb.Begin = true
+takes_a_name verb.Commit = true
+takes_a_name verb.Abort = true
+takes_a_name verb.Read = true
+takes_a_name verb.Update = true
+takes_a_name verb.CloseCursor = true
+takes_a_name other = false

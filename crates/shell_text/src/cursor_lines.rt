@@ -5,7 +5,7 @@ ghost use Rattle.shell_text.specs.Reading.{IsReading};
 ghost use Rattle.shell_text.specs.Texts.{texts};
 ghost use Rattle.shell_text.specs.Verbs.{verb_word};
 
-use crate::fields::{of_cursor, of_range, of_seek, one_name};
+use crate::fields::{of_cursor, of_range, of_seek};
 use crate::line::{Line, TextFault};
 use crate::verb::Verb;
 use std::alloc::Global;
@@ -32,28 +32,4 @@ pub(crate) fn seek_range(alloc: Global, rest: &[&[u8]]) -> Result<Line, TextFaul
 {
     let (cursor, first, last) = of_range(alloc, rest)?;
     Ok(Line::SeekRange(cursor, first, last))
-}
-
-/// Reads a cursor's next pair.
-pub(crate) fn read_cursor(alloc: Global, rest: &[&[u8]]) -> Result<Line, TextFault>
-    ensures { IsReading (λ line. Says line (verb_word Verb.Read ∷ texts rest.now)) result }
-{
-    let cursor = one_name(alloc, rest)?;
-    Ok(Line::Read(cursor))
-}
-
-/// Gives a cursor a new view.
-pub(crate) fn update(alloc: Global, rest: &[&[u8]]) -> Result<Line, TextFault>
-    ensures { IsReading (λ line. Says line (verb_word Verb.Update ∷ texts rest.now)) result }
-{
-    let cursor = one_name(alloc, rest)?;
-    Ok(Line::Update(cursor))
-}
-
-/// Closes a cursor.
-pub(crate) fn close_cursor(alloc: Global, rest: &[&[u8]]) -> Result<Line, TextFault>
-    ensures { IsReading (λ line. Says line (verb_word Verb.CloseCursor ∷ texts rest.now)) result }
-{
-    let cursor = one_name(alloc, rest)?;
-    Ok(Line::CloseCursor(cursor))
 }

@@ -5,8 +5,8 @@ ghost use Rattle.shell_text.specs.Reading.{IsReading};
 ghost use Rattle.shell_text.specs.Texts.{texts};
 ghost use Rattle.shell_text.specs.Words.{actor_of, direction, item, mode_of, name, number};
 
-use crate::item::Item;
 use crate::line::{Actor, TextFault};
+use crate::listed::Item;
 use crate::words::{actor, direction, item, mode, name, number};
 use hse_rows::{Mode, StoreName};
 use std::alloc::Global;
@@ -41,12 +41,11 @@ pub(crate) fn of_key(alloc: Global, words: &[&[u8]]) -> Result<(Actor, StoreName
     ensures { IsReading (λ of.
         AreWords (actor_of of.0 ∷ name of.1 ∷ item of.2 ∷ []) (texts words.now)) result }
 {
-    let [who, store, key] = words else {
+    let [who, rest @ ..] = words else {
         return Err(TextFault::BadLine);
     };
     let who = actor(alloc, who)?;
-    let store = name(alloc, store)?;
-    let key = item(alloc, key)?;
+    let (store, key) = of_seek(alloc, rest)?;
     Ok((who, store, key))
 }
 

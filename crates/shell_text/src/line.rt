@@ -1,7 +1,7 @@
 //! What the lines of a script ask for.
 ghost use Rattle.std.specs.Prelude.{◌≡◌};
 
-use crate::item::Item;
+use crate::listed::Item;
 use hse_io::NoMemory;
 use hse_rows::{Mode, StoreName};
 use std::alloc::AllocError;

@@ -5,13 +5,14 @@ ghost use Rattle.shell_text.specs.Reading.{IsReading};
 ghost use Rattle.shell_text.specs.Texts.{texts};
 ghost use Rattle.shell_text.specs.Verbs.{verb_word};
 
-use crate::cursor_lines::{close_cursor, cursor, read_cursor, seek, seek_range, update};
+use crate::cursor_lines::{cursor, seek, seek_range};
 use crate::line::{Line, TextFault};
+use crate::name_lines::named;
 use crate::split::words_of;
-use crate::store_lines::{create_store, drop_store};
+use crate::store_lines::create_store;
 use crate::take_lines::take;
 use crate::verb::{Verb, verb_of};
-use crate::write_lines::{abort, begin, commit, del, get, pdel, put};
+use crate::write_lines::{del, get, pdel, put};
 use std::alloc::Global;
 
 /// What a line asks for. `BadLine` comes exactly where the line is outside the grammar. A silent line takes no
@@ -58,20 +59,20 @@ fn read_rest(alloc: Global, verb: Verb, rest: &[&[u8]]) -> Result<Line, TextFaul
 {
     match verb {
         Verb::CreateStore => create_store(alloc, rest),
-        Verb::DropStore => drop_store(alloc, rest),
-        Verb::Begin => begin(alloc, rest),
+        Verb::DropStore => named(alloc, verb, rest),
+        Verb::Begin => named(alloc, verb, rest),
         Verb::Put => put(alloc, rest),
         Verb::Del => del(alloc, rest),
         Verb::Pdel => pdel(alloc, rest),
         Verb::Get => get(alloc, rest),
-        Verb::Commit => commit(alloc, rest),
-        Verb::Abort => abort(alloc, rest),
+        Verb::Commit => named(alloc, verb, rest),
+        Verb::Abort => named(alloc, verb, rest),
         Verb::Cursor => cursor(alloc, rest),
         Verb::Seek => seek(alloc, rest),
         Verb::SeekRange => seek_range(alloc, rest),
-        Verb::Read => read_cursor(alloc, rest),
-        Verb::Update => update(alloc, rest),
-        Verb::CloseCursor => close_cursor(alloc, rest),
+        Verb::Read => named(alloc, verb, rest),
+        Verb::Update => named(alloc, verb, rest),
+        Verb::CloseCursor => named(alloc, verb, rest),
         Verb::Take => take(alloc, rest),
         Verb::Stores => alone(rest, Line::Stores),
         Verb::Write => alone(rest, Line::Write),

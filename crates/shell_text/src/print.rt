@@ -20,12 +20,12 @@ pub fn print_reply(reply: &Reply, into: &mut Vec<u8>) -> Result<(), NoMemory>
     match reply {
         Reply::Ok => append_line(b"ok", into),
         Reply::Number(number) => append_counted(b"ok ", *number, into),
-        Reply::Value(value) => append_named(b"value ", value.bytes(), into),
+        Reply::Value(value) => append_named(b"value ", value.as_slice(), into),
         Reply::Absent => append_line(b"none", into),
-        Reply::At(key) => append_named(b"at ", key.bytes(), into),
+        Reply::At(key) => append_named(b"at ", key.as_slice(), into),
         Reply::Eof => append_line(b"eof", into),
-        Reply::Pair(key, value) => append_pair(key.bytes(), value.bytes(), into),
-        Reply::Stores(stores) => append_stores(stores.stores(), into),
+        Reply::Pair(key, value) => append_pair(key.as_slice(), value.as_slice(), into),
+        Reply::Stores(stores) => append_stores(stores.as_slice(), into),
         Reply::Info(number, frozen, charge, free, manifest) => {
             append_info(*number, *frozen, *charge, *free, *manifest, into)
         }

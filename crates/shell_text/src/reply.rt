@@ -1,9 +1,6 @@
 //! What the replies to lines say.
-ghost use Rattle.std.specs.Prelude.{◌≡◌};
-
-use crate::item::Item;
+use crate::listed::{Item, Listed};
 use hse_rows::{Mode, StoreName};
-use std::marker::Model;
 
 /// A store, as `stores` lists it.
 #[derive(Drop)]
@@ -17,42 +14,7 @@ pub struct StoreText {
 }
 
 /// Stores, as `stores` lists them.
-#[derive(Drop)]
-pub struct StoreTexts {
-    stores: Vec<StoreText>,
-}
-
-impl Model for StoreTexts {
-    ghost use Rattle.std.specs.Prelude.{List};
-    ghost use Rattle.shell_text.specs.declared.reply.StoreText.{StoreText};
-
-    ghost Value = { List StoreText };
-
-    ghost view = { λ texts. texts.stores.items };
-}
-
-impl StoreTexts {
-    /// The list of these stores, in this order. It takes no memory.
-    pub fn of(stores: Vec<StoreText>) -> StoreTexts
-        ensures { result ≡ stores.items }
-    {
-        StoreTexts { stores }
-    }
-
-    /// The stores. It takes no memory.
-    pub fn stores(&self) -> &[StoreText]
-        ensures { result.now ≡ self.now }
-    {
-        &self.stores
-    }
-
-    /// The stores, given back. It takes no memory.
-    pub fn into_stores(self) -> Vec<StoreText>
-        ensures { result.items ≡ self }
-    {
-        self.stores
-    }
-}
+pub type StoreTexts = Listed<StoreText>;
 
 /// A part of a device.
 #[derive(Clone, Copy, Debug, PartialEq, Eq)]

@@ -5,7 +5,7 @@ ghost use Rattle.shell_text.specs.Reading.{IsReading};
 ghost use Rattle.shell_text.specs.Texts.{texts};
 ghost use Rattle.shell_text.specs.Verbs.{verb_word};
 
-use crate::fields::{of_store, one_name};
+use crate::fields::of_store;
 use crate::line::{Line, TextFault};
 use crate::verb::Verb;
 use std::alloc::Global;
@@ -16,12 +16,4 @@ pub(crate) fn create_store(alloc: Global, rest: &[&[u8]]) -> Result<Line, TextFa
 {
     let (store, mode, prefix) = of_store(alloc, rest)?;
     Ok(Line::CreateStore(store, mode, prefix))
-}
-
-/// Drops a store.
-pub(crate) fn drop_store(alloc: Global, rest: &[&[u8]]) -> Result<Line, TextFault>
-    ensures { IsReading (λ line. Says line (verb_word Verb.DropStore ∷ texts rest.now)) result }
-{
-    let store = one_name(alloc, rest)?;
-    Ok(Line::DropStore(store))
 }

@@ -3,8 +3,8 @@ ghost use Rattle.std.specs.Prelude.{◌≡◌, ◌≢◌, codes};
 ghost use Rattle.shell_text.specs.Reading.{IsReading};
 ghost use Rattle.shell_text.specs.Words.{IsActor, IsItem, IsNameWord, IsNumber, direction_word, mode_word};
 
-use crate::item::Item;
 use crate::line::{Actor, TextFault};
+use crate::listed::Item;
 use crate::plain::{MARK, is_plain};
 use hex::FromHexError;
 use hse_rows::{Mode, NameFault, StoreName};

@@ -5,18 +5,10 @@ ghost use Rattle.shell_text.specs.Reading.{IsReading};
 ghost use Rattle.shell_text.specs.Texts.{texts};
 ghost use Rattle.shell_text.specs.Verbs.{verb_word};
 
-use crate::fields::{of_key, of_pair, one_name};
+use crate::fields::{of_key, of_pair};
 use crate::line::{Line, TextFault};
 use crate::verb::Verb;
 use std::alloc::Global;
-
-/// Begins a transaction.
-pub(crate) fn begin(alloc: Global, rest: &[&[u8]]) -> Result<Line, TextFault>
-    ensures { IsReading (λ line. Says line (verb_word Verb.Begin ∷ texts rest.now)) result }
-{
-    let transaction = one_name(alloc, rest)?;
-    Ok(Line::Begin(transaction))
-}
 
 /// Sets a key of a store to a value.
 pub(crate) fn put(alloc: Global, rest: &[&[u8]]) -> Result<Line, TextFault>
@@ -48,20 +40,4 @@ pub(crate) fn get(alloc: Global, rest: &[&[u8]]) -> Result<Line, TextFault>
 {
     let (who, store, key) = of_key(alloc, rest)?;
     Ok(Line::Get(who, store, key))
-}
-
-/// Commits a transaction.
-pub(crate) fn commit(alloc: Global, rest: &[&[u8]]) -> Result<Line, TextFault>
-    ensures { IsReading (λ line. Says line (verb_word Verb.Commit ∷ texts rest.now)) result }
-{
-    let transaction = one_name(alloc, rest)?;
-    Ok(Line::Commit(transaction))
-}
-
-/// Aborts a transaction.
-pub(crate) fn abort(alloc: Global, rest: &[&[u8]]) -> Result<Line, TextFault>
-    ensures { IsReading (λ line. Says line (verb_word Verb.Abort ∷ texts rest.now)) result }
-{
-    let transaction = one_name(alloc, rest)?;
-    Ok(Line::Abort(transaction))
 }
