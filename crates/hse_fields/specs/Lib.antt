@@ -4,4 +4,8 @@ pub mod LogText
 pub mod LogOrder
 pub mod LogForm
 pub mod LogReading
+pub mod BlockText
+pub mod BlockReading
+pub mod BlockForm
+pub mod BlockGiven
 pub mod laws

@@ -7,3 +7,7 @@ pub mod Payloads
 pub mod Follow
 pub mod Within
 pub mod Prefixes
+pub mod Blocks
+pub mod BlockHeaders
+pub mod ValueTexts
+pub mod PrefixTexts

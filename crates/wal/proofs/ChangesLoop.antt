@@ -5,8 +5,8 @@ use Rattle.std.proofs.lemmas.List.{append-nil, length_push}
 use Rattle.hse_fields.specs.LogText.{Change}
 use Rattle.hse_fields.specs.LogReading.{◌>>=◌, change_of, more_changes_of}
 use Rattle.hse_rows.specs.declared.write.Write.{Write}
-use Rattle.wal.specs.declared.refusal.Refusal.{Refusal}
-use Rattle.wal.specs.declared.refusal.Refusal.TheVariants.{Left, NoMemory}
+use Rattle.hse_fields.specs.declared.refusal.Refusal.{Refusal}
+use Rattle.hse_fields.specs.declared.refusal.Refusal.TheVariants.{Left, NoMemory}
 use Rattle.wal.specs.Given.{Fails}
 use Rattle.wal.specs.Logged.{logged, last_of}
 

@@ -9,8 +9,8 @@ use Rattle.hse_fields.specs.LogText.{Entry, entry_text, payload_text}
 use Rattle.hse_fields.specs.LogReading.{◌>>=◌, entry_of, entries_of, payload_of}
 use Rattle.hse_fields.specs.laws.Fields.{IsBytes}
 use Rattle.hse_fields.specs.laws.Payloads.{payload_takes}
-use Rattle.wal.specs.declared.refusal.Refusal.{Refusal}
-use Rattle.wal.specs.declared.refusal.Refusal.TheVariants.{Left, NoMemory}
+use Rattle.hse_fields.specs.declared.refusal.Refusal.{Refusal}
+use Rattle.hse_fields.specs.declared.refusal.Refusal.TheVariants.{Left, NoMemory}
 use Rattle.wal.specs.Charges.{charges}
 use Rattle.wal.specs.Given.{Fails}
 use Rattle.wal.specs.Logged.{charge}

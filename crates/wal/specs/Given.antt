@@ -1,8 +1,8 @@
 -- What the readers of this crate give is what reading gives on lists, unless it is out of memory.
 use Rattle.std.specs.Prelude.{◌≡◌, ℕ, Result, Ok, Err}
 use Rattle.hse_fields.specs.LogText as log
-use Rattle.wal.specs.declared.refusal.Refusal.{Refusal}
-use Rattle.wal.specs.declared.refusal.Refusal.TheVariants.{Left, NoMemory}
+use Rattle.hse_fields.specs.declared.refusal.Refusal.{Refusal}
+use Rattle.hse_fields.specs.declared.refusal.Refusal.TheVariants.{Left, NoMemory}
 use Rattle.wal.specs.declared.segment.SegmentFault.{SegmentFault}
 use Rattle.wal.specs.declared.segment.SegmentFault.TheVariants.{Damaged}
 use Rattle.wal.specs.declared.segment.SegmentFault.TheVariants as segment

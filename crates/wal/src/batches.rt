@@ -13,9 +13,9 @@ ghost use Rattle.wal.specs.Replaying.{before, batches_of};
 
 use crate::expected::Expected;
 use crate::reader::{Reader, are_bytes};
-use crate::refusal::Refusal;
 use crate::{Commit, SegmentFault};
 use gate_log::{FIRST_GATE, FRAME_SIZE, Payload};
+use hse_fields::Refusal;
 
 impl<'b, 'a> Reader<'b, 'a> {
     /// The commits of a batch that ends at this place of its region, and what may come after them.

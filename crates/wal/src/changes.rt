@@ -6,8 +6,7 @@ ghost use Rattle.wal.specs.Live.{prefix_fits};
 ghost use Rattle.wal.specs.Logged.{logged_all};
 
 use crate::reader::{Reader, are_bytes};
-use crate::refusal::Refusal;
-use hse_fields::split_u32;
+use hse_fields::{Refusal, split_u32};
 use hse_rows::{Write, WriteSet};
 
 impl<'b, 'a> Reader<'b, 'a> {

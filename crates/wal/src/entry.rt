@@ -13,8 +13,7 @@ ghost use Rattle.wal.specs.declared.live.StorePrefix.{StorePrefix as a_prefix};
 use crate::Commit;
 use crate::expected::{Expected, GREATEST_NUMBER, first_free};
 use crate::reader::{Reader, are_bytes};
-use crate::refusal::Refusal;
-use hse_fields::{LONGEST_VALUE, split_u64};
+use hse_fields::{LONGEST_VALUE, Refusal, split_u64};
 use hse_io::NoMemory;
 use hse_rows::WriteSet;
 

@@ -14,7 +14,6 @@ mod number_laws;
 mod order;
 mod payload;
 mod reader;
-mod refusal;
 mod replay;
 mod segment;
 mod segment_laws;

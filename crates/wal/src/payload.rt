@@ -9,8 +9,7 @@ ghost use Rattle.wal.specs.Numbering.{numbering};
 use crate::Commit;
 use crate::expected::Expected;
 use crate::reader::Reader;
-use crate::refusal::Refusal;
-use hse_fields::split_u32;
+use hse_fields::{Refusal, split_u32};
 
 impl<'b, 'a> Reader<'b, 'a> {
     /// So many commits, and what may come after them.

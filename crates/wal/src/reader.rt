@@ -4,13 +4,12 @@ ghost use Rattle.hse_fields.specs.LogForm.{ValueFits};
 ghost use Rattle.hse_fields.specs.LogReading.{sized_of, value_of};
 ghost use Rattle.hse_fields.specs.laws.Fields.{IsBytes};
 ghost use Rattle.wal.specs.Given.{Gives, kind_as};
-ghost use Rattle.wal.specs.declared.refusal.Refusal.TheVariants.{Left};
+ghost use Rattle.hse_fields.specs.declared.refusal.Refusal.TheVariants.{Left};
 
 use crate::StorePrefix;
 use crate::expected::Expected;
 use crate::kind::Kind;
-use crate::refusal::Refusal;
-use hse_fields::{split_bytes, split_u32};
+use hse_fields::{Refusal, split_bytes, split_u32};
 use std::alloc::Global;
 
 /// The bytes of a payload that are left, and what is asked of what stands there. Each of its calls

@@ -1,6 +1,6 @@
 -- A field that is read is the field that was written, and what was written is read again.
 use Rattle.std.specs.Prelude.{◌≡◌, ℕ, ◌+◌, ◌*◌, ◌%◌, ◌^◌, ◌<◌, ◌≤◌, Bool, true, false, List, [], ◌∷◌, ◌++◌, length, take, drop, Option, Some, None, Result, Ok, Err, nat_lt, nat_le, ◌&&◌}
-use Rattle.std.proofs.Common.{refl, sym, ap, subst, ◌∙◌, append_assoc, arith, get_or, inl, inr, cond}
+use Rattle.std.proofs.Common.{refl, sym, ap, subst, ◌∙◌, append_assoc, arith, get_or, inl, inr, cond, length-drop}
 use Rattle.std.proofs.lemmas.Bool.{cases_lt, ltb-false, le-ltb, leb-true, le-leb, and_parts}
 use Rattle.std.proofs.lemmas.List.{append-nil, take_at, drop_at, take-append-drop, length-append, length-take, get_or-drop, get_or-take, get_or_past}
 use Rattle.std.proofs.lemmas.Nat.{be_bytes_2, be_bytes_4, be_bytes_8}
@@ -103,6 +103,22 @@ number_takes n width bytes x rest fits e =
     let front : big_bytes n x ≡ take n bytes = rw (← x-is) (width.back (take n bytes) (omega (arith, length-take n bytes)) (IsBytes-take n bytes fits)) in
     (record { parts = rw (front, ← rest-is) (sym (take-append-drop n bytes)); rest_fits = rw (← rest-is) (IsBytes-drop n bytes fits) }, rw (← x-is) (big_from-lt 0 n (take n bytes) (IsBytes-take n bytes fits)))
 
+-- how many bytes a number takes, and bytes do
+pub number_length : (n : ℕ) (bytes : List ℕ) (x : ℕ × List ℕ) → number_of n bytes ≡ Ok x → n + length x.1 ≡ length bytes
+number_length n bytes x e =
+    let g = guard_ok (nat_lt (length bytes) n) (length bytes) (big_number n (take n bytes), drop n bytes) x e in
+    let long : n ≤ length bytes = ltb-false _ _ g.0 in
+    subst (λ (p : ℕ × List ℕ). n + length p.1 ≡ length bytes) g.1 (omega (arith, length-drop n bytes))
+
+pub bytes_length : (n : ℕ) (bytes : List ℕ) (x : List ℕ × List ℕ) → bytes_of n bytes ≡ Ok x
+    → (length x.0 ≡ n) × (n + length x.1 ≡ length bytes)
+bytes_length n bytes x e =
+    let g = guard_ok (nat_lt (length bytes) n) (length bytes) (take n bytes, drop n bytes) x e in
+    let long : n ≤ length bytes = ltb-false _ _ g.0 in
+    let taken : length (take n bytes) ≡ n = omega (arith, length-take n bytes) in
+    let rest : n + length (drop n bytes) ≡ length bytes = omega (arith, length-drop n bytes) in
+    subst (λ (p : List ℕ × List ℕ). (length p.0 ≡ n) × (n + length p.1 ≡ length bytes)) g.1 (taken, rest)
+
 pub number_again : (n x : ℕ) (rest : List ℕ) → x < 256 ^ n → number_of n (big_bytes n x ++ rest) ≡ Ok (x, rest)
 number_again n x rest lt =
     let len = length-bytes_high_first n x in
@@ -172,3 +188,16 @@ sized_again n least most text rest fits low high =
     let regrouped : sized n text ++ rest ≡ big_bytes n (length text) ++ (text ++ rest) = append_assoc (big_bytes n (length text)) text rest in
     ap (sized_of n least most) regrouped
     ∙ rw (size_again n least most (length text) (text ++ rest) fits low high) (bytes_again text rest)
+
+-- how many bytes they take behind their length
+pub sized_length : (n least most : ℕ) (bytes : List ℕ) (x : List ℕ × List ℕ) → sized_of n least most bytes ≡ Ok x
+    → n + length x.0 + length x.1 ≡ length bytes
+unfolding sized_of size_of
+sized_length n least most bytes x e =
+    let a = bind_ok (size_of n least most bytes) (λ size. bytes_of size.0 size.1) x e in
+    let b = bind_ok (number_of n bytes) (λ size. ensure (nat_le least size.0 && nat_le size.0 most) (length bytes) >>= λ within. Ok (size.0, size.1)) a.0 a.1 in
+    let c = bind_ok (ensure (nat_le least b.0.0 && nat_le b.0.0 most) (length bytes)) (λ within. Ok (b.0.0, b.0.1)) a.0 b.2 in
+    let size : n + length a.0.1 ≡ length bytes =
+    subst (λ (p : ℕ × List ℕ). n + length p.1 ≡ length bytes) (ok_is (b.0.0, b.0.1) a.0 c.2) (number_length n bytes b.0 b.1) in
+    let body = bytes_length a.0.0 a.0.1 x a.2 in
+    omega (arith, size, body.0, body.1)

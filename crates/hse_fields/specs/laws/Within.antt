@@ -19,12 +19,12 @@ wider : {A : Type 0} (m n : ℕ) (r : Result (A × List ℕ) ℕ) → m ≤ n �
 wider m n (Ok x) le w = omega (arith, w)
 wider m n (Err left) le w = omega (arith, w)
 
-then : {A B : Type 0} (n : ℕ) (r : Result (A × List ℕ) ℕ) (f : A × List ℕ → Result (B × List ℕ) ℕ) → Within n r
+pub then : {A B : Type 0} (n : ℕ) (r : Result (A × List ℕ) ℕ) (f : A × List ℕ → Result (B × List ℕ) ℕ) → Within n r
     → ((x : A × List ℕ) → length x.1 ≤ n → Within n (f x)) → Within n (r >>= f)
 then n (Ok x) f w more = more x w
 then n (Err left) f w more = w
 
-ensured : {A : Type 0} (n left : ℕ) (test : Bool) (f : Unit {0} → Result (A × List ℕ) ℕ) → left ≤ n → Within n (f tt)
+pub ensured : {A : Type 0} (n left : ℕ) (test : Bool) (f : Unit {0} → Result (A × List ℕ) ℕ) → left ≤ n → Within n (f tt)
     → Within n (ensure test left >>= f)
 ensured n left true f le w = w
 ensured n left false f le w = le
@@ -38,10 +38,10 @@ cut : {A : Type 0} (test : Bool) (bytes : List ℕ) (value : A) (m : ℕ) → Wi
 cut true bytes value m = omega arith
 cut false bytes value m = omega (arith, length-drop m bytes)
 
-number_within : (m n : ℕ) (bytes : List ℕ) → length bytes ≤ n → Within n (number_of m bytes)
+pub number_within : (m n : ℕ) (bytes : List ℕ) → length bytes ≤ n → Within n (number_of m bytes)
 number_within m n bytes le = wider (length bytes) n (number_of m bytes) le (cut (nat_lt (length bytes) m) bytes (big_number m (take m bytes)) m)
 
-bytes_within : (m n : ℕ) (bytes : List ℕ) → length bytes ≤ n → Within n (bytes_of m bytes)
+pub bytes_within : (m n : ℕ) (bytes : List ℕ) → length bytes ≤ n → Within n (bytes_of m bytes)
 bytes_within m n bytes le = wider (length bytes) n (bytes_of m bytes) le (cut (nat_lt (length bytes) m) bytes (take m bytes) m)
 
 size_within : (width least most n : ℕ) (bytes : List ℕ) → length bytes ≤ n → Within n (size_of width least most bytes)
@@ -51,7 +51,7 @@ size_within width least most n bytes le =
     (number_within width n bytes le)
     (λ size h. ensured n (length bytes) (nat_le least size.0 && nat_le size.0 most) (λ within. Ok (size.0, size.1)) le h)
 
-sized_within : (width least most n : ℕ) (bytes : List ℕ) → length bytes ≤ n → Within n (sized_of width least most bytes)
+pub sized_within : (width least most n : ℕ) (bytes : List ℕ) → length bytes ≤ n → Within n (sized_of width least most bytes)
 unfolding sized_of
 sized_within width least most n bytes le =
     then n (size_of width least most bytes) (λ size. bytes_of size.0 size.1) (size_within width least most n bytes le)

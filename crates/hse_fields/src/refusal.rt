@@ -1,20 +1,20 @@
 //! Why bytes were not read.
 
-use hse_fields::Short;
+use crate::short::Short;
 use hse_io::NoMemory;
 use std::alloc::{AllocError, AllocFailed};
 
 /// Why bytes were not read.
-#[derive(Clone, Copy)]
-pub(crate) enum Refusal {
-    /// So many bytes stand from the first refused field on, to the end of the batch.
+#[derive(Clone, Copy, Debug, PartialEq, Eq)]
+pub enum Refusal {
+    /// So many bytes stand from the first refused field on, to the end of what is read.
     Left(u64),
     NoMemory,
 }
 
 impl From<Short> for Refusal {
     ghost use Rattle.std.specs.Prelude.{◌≡◌};
-    ghost use Rattle.wal.specs.declared.refusal.Refusal.TheVariants.{Left};
+    ghost use Rattle.hse_fields.specs.declared.refusal.Refusal.TheVariants.{Left};
 
     ghost from_gives = { λ short refusal. refusal ≡ Left short.have };
 
@@ -25,7 +25,7 @@ impl From<Short> for Refusal {
 
 impl From<NoMemory> for Refusal {
     ghost use Rattle.std.specs.Prelude.{◌≡◌};
-    ghost use Rattle.wal.specs.declared.refusal.Refusal.TheVariants.{NoMemory as OutOfMemory};
+    ghost use Rattle.hse_fields.specs.declared.refusal.Refusal.TheVariants.{NoMemory as OutOfMemory};
 
     ghost from_gives = { λ _ refusal. refusal ≡ OutOfMemory };
 
@@ -36,7 +36,7 @@ impl From<NoMemory> for Refusal {
 
 impl From<AllocError> for Refusal {
     ghost use Rattle.std.specs.Prelude.{◌≡◌};
-    ghost use Rattle.wal.specs.declared.refusal.Refusal.TheVariants.{NoMemory as OutOfMemory};
+    ghost use Rattle.hse_fields.specs.declared.refusal.Refusal.TheVariants.{NoMemory as OutOfMemory};
 
     ghost from_gives = { λ _ refusal. refusal ≡ OutOfMemory };
 
@@ -47,7 +47,7 @@ impl From<AllocError> for Refusal {
 
 impl<T: Drop> From<AllocFailed<T>> for Refusal {
     ghost use Rattle.std.specs.Prelude.{◌≡◌};
-    ghost use Rattle.wal.specs.declared.refusal.Refusal.TheVariants.{NoMemory as OutOfMemory};
+    ghost use Rattle.hse_fields.specs.declared.refusal.Refusal.TheVariants.{NoMemory as OutOfMemory};
 
     ghost from_gives = { λ _ refusal. refusal ≡ OutOfMemory };
 
