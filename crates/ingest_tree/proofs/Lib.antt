@@ -1,3 +1,4 @@
+pub mod ChunkLemmas
 pub mod OrderLemmas
 mod MarkLemmas
 pub mod PartLemmas

@@ -9,6 +9,7 @@ mod mark;
 mod node;
 mod part;
 mod search;
+mod shelf;
 mod steps;
 mod store_row;
 mod store_rows;

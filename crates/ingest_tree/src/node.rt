@@ -1,5 +1,6 @@
 //! A leaf or a branch: parts in a row, which several owners share.
-ghost use Rattle.std.specs.Prelude.{◌≡◌, ◌≤◌, ◌<◌, ◌+◌, ◌*◌, ◌^◌, [], ◌∷◌, length, take, IfOk};
+ghost use Rattle.std.specs.Prelude.{◌≡◌, ◌≤◌, ◌<◌, ◌+◌, ◌*◌, ◌^◌, [], ◌∷◌, ◌++◌, IfOk};
+ghost use Rattle.std.specs.Prelude.{length, take, drop, suc};
 ghost use Rattle.std.specs.List.{flat_map};
 ghost use Rattle.std.specs.Option.{option_map};
 ghost use Rattle.ingest_tree.specs.Rows.{AreRising, row_at, rows_with, found_at, count_before};
@@ -10,18 +11,18 @@ use crate::builder::{Builder, rebuilt};
 use crate::mark::Mark;
 use crate::part::{Grown, Part};
 use crate::search::child_at;
+use crate::shelf::{Shelf, Twin};
 use crate::steps::Steps;
 use crate::store_row::{SharedRow, Spot, StoreRow};
 use hse_io::NoMemory;
 use std::alloc::Global;
 use std::marker::Model;
-use std::sync::Arc;
 use std::sync::ledger::Ledger;
 
 /// Parts in a row, with how many rows they have and the mark of the first.
 #[derive(Drop)]
 pub(crate) struct Node<T: Part> {
-    parts: Arc<Vec<T>>,
+    parts: Shelf<T>,
     count: u64,
     mark: Mark,
 }
@@ -29,16 +30,15 @@ pub(crate) struct Node<T: Part> {
 impl<T: Part> Model for Node<T> {
     ghost use Rattle.std.specs.Prelude.{◌≡◌, List, length};
     ghost use Rattle.std.specs.List.{flat_map};
-    ghost use Rattle.std.specs.Arc.{arc_value};
 
     ghost Value = { List T };
 
-    ghost view = { λ n. (arc_value n.parts).items };
+    ghost view = { λ n. n.parts };
 
     ghost use Rattle.ingest_tree.specs.Marks.{first_mark};
 
-    ghost invariant = { λ n. (n.count ≡ length (flat_map T.rows (arc_value n.parts).items))
-        × (n.mark ≡ first_mark T.marked (arc_value n.parts).items) };
+    ghost invariant = { λ n. (n.count ≡ length (flat_map T.rows n.parts))
+        × (n.mark ≡ first_mark T.marked n.parts) };
 }
 
 /// A leaf, and a branch.
@@ -76,6 +76,14 @@ fn mark_over<T: Part>(parts: &[T]) -> Mark
     }
 }
 
+/// The mark of a node of this mark after a part came to this place.
+fn mark_after<T: Part>(old: Mark, at: usize, part: &T) -> Mark
+    ensures first { at ≡ 0 → result ≡ T.marked part.now }
+    ensures later { 0 < at → result ≡ old }
+{
+    if at == 0 { part.mark() } else { old }
+}
+
 impl<T: Part> Node<T> {
     /// A node of these parts.
     pub fn new(alloc: Global, parts: Vec<T>) -> Result<Node<T>, NoMemory>
@@ -83,12 +91,34 @@ impl<T: Part> Node<T> {
     {
         let count = counted(&parts)?;
         let mark = mark_over(&parts);
-        let parts = Arc::new(alloc, parts)?;
+        let parts = Shelf::new(alloc, parts)?;
+        Ok(Node { parts, count, mark })
+    }
+
+    /// The node with a part in place of another.
+    fn replaced<L: Ledger>(
+        &self,
+        alloc: Global,
+        at: usize,
+        part: T,
+        steps: &mut Steps<L>,
+    ) -> Result<Node<T>, NoMemory>
+        requires { at < length self.now }
+        ensures cost { steps.new ≤ steps.old + (length self.now + 1) }
+        ensures node { IfOk result (λ node.
+            node ≡ take at self.now ++ part ∷ drop (suc at) self.now) }
+    {
+        let others = self.count - self.parts.item(at).count();
+        let Some(count) = others.checked_add(part.count()) else {
+            return Err(NoMemory);
+        };
+        let mark = mark_after(self.mark, at, &part);
+        let parts = self.parts.with(alloc, at, part, steps)?;
         Ok(Node { parts, count, mark })
     }
 
     /// Its parts.
-    pub fn parts(&self) -> &[T]
+    pub fn parts(&self) -> &Shelf<T>
         ensures { result.now ≡ self.now }
     {
         &self.parts
@@ -114,13 +144,13 @@ fn finished<T: Part>(alloc: Global, builder: Builder<T>) -> Result<Grown<Node<T>
 }
 
 /// The part at a place, and how many rows stand before it.
-fn part_over<T: Part>(parts: &[T], place: u64) -> (usize, u64)
+fn part_over<T: Part>(parts: &Shelf<T>, place: u64) -> (usize, u64)
     requires { place < length (flat_map T.rows parts.now) }
     ensures { IsOver T.rows parts.now place result.0 result.1 }
 {
     let mut before: u64 = 0;
     for at in 0..parts.len() {
-        let count = parts[at].count();
+        let count = parts.item(at).count();
         if place - before < count {
             return (at, before);
         }
@@ -130,28 +160,33 @@ fn part_over<T: Part>(parts: &[T], place: u64) -> (usize, u64)
 }
 
 /// How many rows stand in the first parts.
-fn counted_before<T: Part>(parts: &[T], at: usize) -> u64
+fn counted_before<T: Part>(parts: &Shelf<T>, at: usize) -> u64
     requires within { at ≤ length parts.now }
     requires fits { length (flat_map T.rows parts.now) < 2 ^ 64 }
     ensures { result ≡ length (flat_map T.rows (take at parts.now)) }
 {
-    let (front, _) = parts.split_at(at);
     let mut count: u64 = 0;
-    for part in front {
-        count += part.count();
+    for i in 0..at {
+        count += parts.item(i).count();
     }
     count
 }
 
-/// How many parts the first node takes, where one of so many parts became this.
-fn cut_for<T: Part>(count: usize, grown: &Grown<T>) -> usize
-    requires { count ≤ 128 }
-    ensures whole { count + length (parts_of grown.now.0 grown.now.1) ≤ 129 → result ≡ 128 }
-    ensures halves { 129 < count + length (parts_of grown.now.0 grown.now.1) → result ≡ 64 }
+/// How many parts the first node takes, where one of so many parts became two.
+fn cut_for(count: usize) -> usize
+    ensures whole { count < 128 → result ≡ 128 }
+    ensures halves { 128 ≤ count → result ≡ 64 }
 {
-    match &grown.1 {
-        None => MOST,
-        Some(_) => { if count < MOST { MOST } else { HALF } }
+    if count < MOST { MOST } else { HALF }
+}
+
+impl<T: Part> Twin for Node<T> {
+    fn share(&self) -> Result<Node<T>, NoMemory> {
+        Ok(Node {
+            parts: self.parts.share()?,
+            count: self.count,
+            mark: self.mark,
+        })
     }
 }
 
@@ -194,13 +229,13 @@ impl<T: Part> Part for Node<T> {
     }
 
     fn first(&self) -> &StoreRow {
-        self.parts()[0].first()
+        self.parts().item(0).first()
     }
 
     fn at(&self, place: u64) -> &StoreRow {
         let parts = self.parts();
         let (at, before) = part_over(parts, place);
-        parts[at].at(place - before)
+        parts.item(at).at(place - before)
     }
 
     fn find(&self, spot: Spot<'_>) -> Option<&StoreRow> {
@@ -211,14 +246,6 @@ impl<T: Part> Part for Node<T> {
         self.place_in(spot)
     }
 
-    fn share(&self) -> Result<Node<T>, NoMemory> {
-        Ok(Node {
-            parts: self.parts.clone()?,
-            count: self.count,
-            mark: self.mark,
-        })
-    }
-
     fn with<L: Ledger>(
         &self,
         alloc: Global,
@@ -227,10 +254,15 @@ impl<T: Part> Part for Node<T> {
     ) -> Result<Grown<Node<T>>, NoMemory> {
         let parts = self.parts();
         let at = child_at(parts, row.row().spot());
-        let grown = parts[at].with(alloc, row, steps)?;
-        let cut = cut_for(parts.len(), &grown);
-        let builder = rebuilt(alloc, parts, at, grown, cut, steps)?;
-        finished(alloc, builder)
+        let (part, other) = parts.item(at).with(alloc, row, steps)?;
+        match other {
+            None => Ok((self.replaced(alloc, at, part, steps)?, None)),
+            Some(other) => {
+                let cut = cut_for(parts.len());
+                let builder = rebuilt(alloc, parts, at, (part, Some(other)), cut, steps)?;
+                finished(alloc, builder)
+            }
+        }
     }
 }
 
@@ -267,9 +299,14 @@ pub(crate) fn root_with<T: Part, L: Ledger>(
         return Err(NoMemory);
     };
     let at = child_at(parts, row.row().spot());
-    let grown = parts[at].with(alloc, row, steps)?;
-    let builder = rebuilt(alloc, parts, at, grown, cut, steps)?;
-    Node::new(alloc, builder.first)
+    let (part, other) = parts.item(at).with(alloc, row, steps)?;
+    match other {
+        None => root.replaced(alloc, at, part, steps),
+        Some(other) => {
+            let builder = rebuilt(alloc, parts, at, (part, Some(other)), cut, steps)?;
+            Node::new(alloc, builder.first)
+        }
+    }
 }
 
 impl<T: Part> Node<T> {
@@ -281,7 +318,7 @@ impl<T: Part> Node<T> {
             ≡ found_at (row_at spot.entry) (flat_map T.rows self.now) }
     {
         let parts = self.parts();
-        parts[child_at(parts, spot)].find(spot)
+        parts.item(child_at(parts, spot)).find(spot)
     }
 
     /// How many rows stand before this spot, where there may be any number of parts.
@@ -293,6 +330,6 @@ impl<T: Part> Node<T> {
         let _all = self.count;
         let parts = self.parts();
         let at = child_at(parts, spot);
-        counted_before(parts, at) + parts[at].place(spot)
+        counted_before(parts, at) + parts.item(at).place(spot)
     }
 }

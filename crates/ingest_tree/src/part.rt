@@ -10,6 +10,7 @@ ghost use Rattle.ingest_tree.specs.Marks.{mark_of};
 ghost use Rattle.ingest_tree.specs.declared.mark.Mark.{Mark as a_mark};
 
 use crate::mark::Mark;
+use crate::shelf::Twin;
 use crate::steps::Steps;
 use crate::store_row::{SharedRow, Spot, StoreRow};
 use hse_io::NoMemory;
@@ -21,7 +22,7 @@ use std::sync::ledger::Ledger;
 pub(crate) type Grown<T> = (T, Option<T>);
 
 /// Rows in order that stand together.
-pub(crate) trait Part: Drop + Sized {
+pub(crate) trait Part: Twin + Drop + Sized {
     /// The rows, however they are kept.
     ghost rows: { Self → List a_row };
 
@@ -71,10 +72,6 @@ pub(crate) trait Part: Drop + Sized {
         requires rising { AreRising (rows self.now) }
         ensures { result ≡ count_before (row_at spot.entry) (rows self.now) };
 
-    /// One more owner of the same part.
-    fn share(&self) -> Result<Self, NoMemory>
-        ensures { IfOk result (λ twin. twin ≡ self.now) };
-
     /// The part with one more row, in place of the one that it ties with. The old part stays.
     fn with<L: Ledger>(
         &self,
@@ -97,6 +94,12 @@ pub(crate) trait Part: Drop + Sized {
 
     ghost has_mark: { (part : Self) → sound part → (row : a_row)
         → slice_get (rows part) 0 ≡ Some row → marked part ≡ mark_of row };
+}
+
+impl Twin for SharedRow {
+    fn share(&self) -> Result<SharedRow, NoMemory> {
+        self.twin()
+    }
 }
 
 impl Part for SharedRow {
@@ -159,10 +162,6 @@ impl Part for SharedRow {
             Ordering::Equal => 0,
             Ordering::Greater => 0,
         }
-    }
-
-    fn share(&self) -> Result<SharedRow, NoMemory> {
-        self.twin()
     }
 
     fn with<L: Ledger>(

@@ -8,6 +8,7 @@ ghost use Rattle.ingest_tree.specs.Marks.{front_of};
 ghost use Rattle.hse_rows.specs.writes.Change.{change_of};
 
 use crate::part::Part;
+use crate::shelf::Shelf;
 use crate::store_row::Spot;
 use std::cmp::Ordering;
 
@@ -39,7 +40,7 @@ fn begins_behind<T: Part>(part: &T, spot: Spot<'_>, front: u64) -> bool
 }
 
 /// The part that a row at this spot belongs to.
-pub(crate) fn child_at<T: Part>(parts: &[T], spot: Spot<'_>) -> usize
+pub(crate) fn child_at<T: Part>(parts: &Shelf<T>, spot: Spot<'_>) -> usize
     requires some { 0 < length parts.now }
     requires sound { AllByRecursion T.sound parts.now }
     requires rising { AreRising (flat_map T.rows parts.now) }
@@ -50,7 +51,7 @@ pub(crate) fn child_at<T: Part>(parts: &[T], spot: Spot<'_>) -> usize
     let mut high = parts.len();
     while high - low > 1 {
         let middle = low + (high - low) / 2;
-        if begins_behind(&parts[middle], spot, front) {
+        if begins_behind(parts.item(middle), spot, front) {
             high = middle;
         } else {
             low = middle;

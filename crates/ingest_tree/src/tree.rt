@@ -15,6 +15,7 @@ use crate::iter::IngestIter;
 use crate::lengths::Lengths;
 use crate::node::{Branch, Node, lone, root_with};
 use crate::part::Part;
+use crate::shelf::Twin;
 use crate::steps::Steps;
 use crate::store_row::{SharedRow, Spot, StoreRow};
 use crate::store_rows::StoreRows;
@@ -66,8 +67,8 @@ fn leaf_count(root: &Node<Branch>) -> u64
     let _all = root.count();
     let branches = root.parts();
     let mut count: u64 = 0;
-    for branch in branches {
-        count += branch.parts().len() as u64;
+    for at in 0..branches.len() {
+        count += branches.item(at).parts().len() as u64;
     }
     count
 }
@@ -128,7 +129,7 @@ impl IngestTree {
     }
 
     /// The tree with the row in place of the older row of its key or prefix. This one stays. A step
-    /// is one row, leaf or branch that is put into a new leaf, branch or root.
+    /// is one row, leaf, branch or chunk that is put into a new node or chunk.
     pub fn with<L: Ledger>(
         &self,
         alloc: Global,

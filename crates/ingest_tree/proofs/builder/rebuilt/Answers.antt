@@ -1,14 +1,20 @@
-use Rattle.std.proofs.Common.{◌≡◌, ◌+◌, ◌++◌, arith, take, drop, suc, ap, ◌∙◌}
-use Rattle.std.proofs.lemmas.List.{drop-drop}
+use Rattle.std.proofs.Common.{◌≡◌, ◌+◌, ◌-◌, ◌++◌, arith, length, take, drop, suc, ap, ◌∙◌}
 use Rattle.ingest_tree.specs.Parts.{parts_of}
+use Rattle.ingest_tree.proofs.ChunkLemmas.{range-end}
 use Rattle.ingest_tree.proofs.builder.rebuilt.Goals as goal
 
 pub returns-clause-items : goal.returns-clause-items
 returns-clause-items g c =
-    c.in_ok-put_all-2.ensures.items
-    ∙ ap (λ l. l ++ c.split_at-2.result.1.now)
+    let ps = c.args.parts.now in
+    let at = c.args.at in
+    let all = c.len-2.ensures in
+    let within = c.requires in
+    let front : at - 0 ≡ at = omega arith in
+    let next : at + 1 ≡ suc at = omega arith in
+    c.in_ok-put_range-2.ensures.items
+    ∙ ap (λ l. l ++ take (c.len-2.result - (at + 1)) (drop (at + 1) ps))
     (c.in_ok-put_grown.ensures.items
     ∙ ap (λ l. l ++ parts_of c.args.grown.0 c.args.grown.1)
-    (c.in_ok-put_all.ensures.items ∙ ap (λ l. l ++ c.split_at.result.0.now) c.in_ok-builder.ensures.items ∙ c.split_at.ensures.front))
-    ∙ ap (λ l. take c.args.at c.args.parts.now ++ parts_of c.args.grown.0 c.args.grown.1 ++ l)
-    (c.split_at-2.ensures.back ∙ ap (drop 1) c.split_at.ensures.back ∙ drop-drop 1 c.args.at c.args.parts.now ∙ (let next : c.args.at + 1 ≡ suc c.args.at = omega arith in ap (λ n. drop n c.args.parts.now) next))
+    (c.in_ok-put_range.ensures.items ∙ (λ i. c.in_ok-builder.ensures.items i ++ take (front i) ps)))
+    ∙ ap (λ l. (take at ps ++ parts_of c.args.grown.0 c.args.grown.1) ++ l)
+    (range-end ps (at + 1) (c.len-2.result - (at + 1)) (omega (arith, all, within)) ∙ ap (λ n. drop n ps) next)

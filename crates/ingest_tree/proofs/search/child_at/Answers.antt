@@ -8,12 +8,12 @@ pub loop-high-preserved-then-begins_behind : goal.loop-high-preserved-then-begin
 loop-high-preserved-then-begins_behind g c =
     let within = c.loop-high.invariant.within in
     let apart = c.loop-high-test.true in
-    let part = c.index-parts-middle.result in
+    let part = c.item.result.now in
     narrowed-behind g.T.Part.rows c.args.parts.now (row_at c.args.spot) c.loop-high.low c.loop-high.high
     (c.loop-high.low + (c.loop-high.high - c.loop-high.low) / 2) part part c.requires.rising c.loop-high.invariant
-    c.index-parts-middle.is
+    c.item.ensures
     (g.met.T.Part.begins part
-    (subst g.T.Part.sound (sym c.index-parts-middle.is)
+    (subst g.T.Part.sound (sym c.item.ensures)
     (each-at g.T.Part.sound c.args.parts.now (c.loop-high.low + (c.loop-high.high - c.loop-high.low) / 2) part c.requires.sound (omega (arith, apart, within)))))
     (omega (arith, apart)) (omega (arith, apart))
     (λ row first. sym (c.begins_behind.ensures row first) ∙ c.if-begins_behind.true)
@@ -22,12 +22,12 @@ pub loop-high-preserved : goal.loop-high-preserved
 loop-high-preserved g c =
     let within = c.loop-high.invariant.within in
     let apart = c.loop-high-test.true in
-    let part = c.index-parts-middle.result in
+    let part = c.item.result.now in
     narrowed-before g.T.Part.rows c.args.parts.now (row_at c.args.spot) c.loop-high.low c.loop-high.high
     (c.loop-high.low + (c.loop-high.high - c.loop-high.low) / 2) part part c.requires.rising c.loop-high.invariant
-    c.index-parts-middle.is
+    c.item.ensures
     (g.met.T.Part.begins part
-    (subst g.T.Part.sound (sym c.index-parts-middle.is)
+    (subst g.T.Part.sound (sym c.item.ensures)
     (each-at g.T.Part.sound c.args.parts.now (c.loop-high.low + (c.loop-high.high - c.loop-high.low) / 2) part c.requires.sound (omega (arith, apart, within)))))
     (omega (arith, apart))
     (λ row first. sym (c.begins_behind.ensures row first) ∙ c.if-begins_behind.false)

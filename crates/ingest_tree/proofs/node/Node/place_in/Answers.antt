@@ -9,14 +9,14 @@ use Rattle.ingest_tree.proofs.node.Node.place_in.Goals as goal
 
 pub place-requires-clause-rising : goal.place-requires-clause-rising
 place-requires-clause-rising g c =
-    rising-part g.T.Part.rows c.parts-parts.result.now c.child_at-at.result c.index-parts-at.result c.child_at-at.ensures.within c.index-parts-at.is
+    rising-part g.T.Part.rows c.parts-parts.result.now c.child_at-at.result c.item.result.now c.child_at-at.ensures.within c.item.ensures
     (subst (λ ps. IsStrictlySortedBy store_row_cmp (flat_map g.T.Part.rows ps)) (sym c.parts-parts.ensures) c.requires.rising)
 
 pub overflow_add-result : goal.overflow_add-result
 overflow_add-result g c =
     let rows = g.T.Part.rows in
     let before = λ (row : StoreRow). is_lt (store_row_cmp row (row_at c.args.spot)) in
-    let sum = count-child rows c.parts-parts.result.now c.child_at-at.result c.index-parts-at.result c.child_at-at.ensures.within c.index-parts-at.is
+    let sum = count-child rows c.parts-parts.result.now c.child_at-at.result c.item.result.now c.child_at-at.ensures.within c.item.ensures
     (row_at c.args.spot) c.child_at-at.ensures in
     let short = filter-shorter before (flat_map rows c.parts-parts.result.now) in
     let one = c.counted_before.ensures in
@@ -28,6 +28,6 @@ overflow_add-result g c =
 pub returns : goal.returns
 returns g c =
     (λ i. c.counted_before.ensures i + c.place.ensures i)
-    ∙ sym (count-child g.T.Part.rows c.parts-parts.result.now c.child_at-at.result c.index-parts-at.result c.child_at-at.ensures.within c.index-parts-at.is
+    ∙ sym (count-child g.T.Part.rows c.parts-parts.result.now c.child_at-at.result c.item.result.now c.child_at-at.ensures.within c.item.ensures
     (row_at c.args.spot) c.child_at-at.ensures)
     ∙ ap (λ ps. length (filter (λ row. is_lt (store_row_cmp row (row_at c.args.spot))) (flat_map g.T.Part.rows ps))) c.parts-parts.ensures

@@ -12,5 +12,5 @@ returns g c =
     ap (slice_get (flat_map rows c.args.self.now)) (omega (arith, from, counted))
     ∙ ap (λ ps. slice_get (flat_map rows ps) (length (flat_map rows (take c.part_over-at.result.0 c.parts-parts.result.now)) + (c.args.place - c.part_over-at.result.1)))
     (sym c.parts-parts.ensures)
-    ∙ get-child rows c.parts-parts.result.now c.part_over-at.result.0 c.index-parts-at.result over.within c.index-parts-at.is
+    ∙ get-child rows c.parts-parts.result.now c.part_over-at.result.0 c.item.result.now over.within c.item.ensures
     (c.args.place - c.part_over-at.result.1) c.at.result.now c.at.ensures
