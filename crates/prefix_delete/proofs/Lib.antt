@@ -1,2 +1,5 @@
 pub mod CoverLemmas
 pub mod EntryLemmas
+pub mod ReadingLoop
+pub mod RisingLemmas
+pub mod FillingLemmas

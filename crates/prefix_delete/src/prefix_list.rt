@@ -1,11 +1,17 @@
 //! Prefixes with the numbers of their deletions, in order.
-ghost use Rattle.std.specs.Prelude.{◌≡◌, ◌<◌, ◌≤◌, ◌==◌, [], length as number_of_all, slice_get, Some, OnOk, OnErr};
+ghost use Rattle.std.specs.Prelude.{◌≡◌, ◌<◌, ◌≤◌, ◌==◌, ◌^◌, [], length as number_of_all, slice_get, None, Some, IfErr, IfOk, OnOk, OnErr};
 ghost use Rattle.std.specs.List.{filter};
 ghost use Rattle.std.specs.List.Sorted.{IsStrictlySortedBy};
 ghost use Rattle.hse_rows.specs.rows.Meaning.{covered_at};
+ghost use Rattle.hse_fields.specs.BlockReading.{prefix_block_of};
+ghost use Rattle.prefix_delete.specs.Blocks.{last_prefix, Adds, IsFilled, KeepsUsed, Refuses};
 ghost use Rattle.prefix_delete.specs.Prefixes.{ArePrefixes, IsUsed, AreUsed, prefix_cmp, entry_of, rows_of, with_entry};
 
+use crate::block::block_entries;
 use crate::entry::{Entry, greater, number_of, place};
+use crate::fault::PrefixBlockFault;
+use crate::filling::filled;
+use crate::reading::last_of;
 use hse_io::NoMemory;
 use hse_rows::Prefix;
 use std::alloc::Global;
@@ -96,6 +102,50 @@ impl PrefixList {
         put(&mut self.entries, Entry { prefix, number })?;
         self.used[len] = true;
         Ok(())
+    }
+
+    /// The block of at most slot bytes that is filled with the entries from one on, and the next one, or
+    /// the number of entries where there is none. Each entry goes into the block that fits.
+    pub fn to_block(&self, alloc: Global, from: u64, slot: u64) -> Result<(Vec<u8>, u64), NoMemory>
+        requires from { from < number_of_all self.now }
+        requires large { 2 ^ 16 ≤ slot }
+        requires small { slot ≤ 2 ^ 25 }
+        ensures { IfOk result (λ made. IsFilled self.now from slot made.0.items made.1) }
+    {
+        let (_, entries) = self.entries.split_at(from as usize);
+        let (block, count) = filled(alloc, entries, slot)?;
+        Ok((block, from + count))
+    }
+
+    /// Adds the entries of a block of prefix deletes behind those of the list. `Damaged` has the place
+    /// of the first field of the block that is refused: of its header, an entry whose prefix has a
+    /// length outside 1 to 32, at that length, an entry whose prefix does not stand above the last
+    /// one, also the list's last one, at the entry, the first entry that passes the used bytes, and
+    /// the used bytes where bytes of them are left over. After an error the list is as before.
+    pub fn read_block(&mut self, bytes: &[u8]) -> Result<(), PrefixBlockFault>
+        ensures read { OnOk result (Adds self.old self.new
+            (prefix_block_of (last_prefix None self.old) bytes.now)) }
+        ensures refused { IfErr result (Refuses
+            (prefix_block_of (last_prefix None self.old) bytes.now)) }
+        ensures unchanged { OnErr result (self.new ≡ self.old) }
+    {
+        let alloc = *self.entries.allocator();
+        let mut more = block_entries(alloc, last_of(None, &self.entries), bytes)?;
+        mark(&mut self.used, &more);
+        let Ok(()) = self.entries.append(&mut more) else {
+            return Err(PrefixBlockFault::NoMemory);
+        };
+        Ok(())
+    }
+}
+
+/// Notes the lengths of these entries as lengths in use.
+fn mark(used: &mut [bool; 33], entries: &[Entry])
+    ensures marked { AreUsed used.new entries.now }
+    ensures kept { KeepsUsed used.old used.new }
+{
+    for entry in entries {
+        used[entry.prefix.bytes().len()] = true;
     }
 }
 

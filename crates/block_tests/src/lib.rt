@@ -1,0 +1,11 @@
+//! Tests of the blocks of sets of rows over their public calls.
+#![tactic(auto)]
+
+#[cfg(test)]
+mod changes;
+#[cfg(test)]
+mod keys;
+#[cfg(test)]
+mod prefixes;
+#[cfg(test)]
+mod values;

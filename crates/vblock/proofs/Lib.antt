@@ -1,0 +1,4 @@
+pub mod TextLemmas
+pub mod ReadingLoop
+pub mod OpeningLemmas
+pub mod FindingLoop

@@ -1,0 +1,32 @@
+//! Reads the entries of a block of values.
+ghost use Rattle.std.specs.Prelude.{◌≡◌, ◌≤◌, length, IfErr};
+ghost use Rattle.hse_fields.specs.BlockGiven.{Gives};
+ghost use Rattle.hse_fields.specs.BlockReading.{behind_of, values_of};
+ghost use Rattle.hse_fields.specs.LogLimits.{longest_value};
+ghost use Rattle.hse_fields.specs.LogReading.{sized_of};
+
+use hse_fields::{Left, split_bytes, split_u32};
+
+/// A value behind its length, and the bytes behind it.
+#[tactic(auto, unfolding(hse_fields::specs::LogReading::sized_of, hse_fields::specs::LogReading::size_of))]
+pub(crate) fn read_value(bytes: &[u8]) -> Result<(&[u8], &[u8]), Left>
+    ensures { Gives (λ x. (x.0.now, x.1.now)) result (sized_of 4 0 longest_value bytes.now) }
+{
+    let (size, rest) = split_u32(bytes)?;
+    Ok(split_bytes(rest, size as u64)?)
+}
+
+/// The bytes behind so many values.
+pub(crate) fn behind_values(bytes: &[u8], count: u32) -> Result<&[u8], Left>
+    ensures gives { Gives (λ x. x.now) result (behind_of (values_of count bytes.now)) }
+    ensures inside { IfErr result (λ refusal. refusal.left ≤ length bytes.now) }
+{
+    let mut rest = bytes;
+    for _ in 0..count {
+        match read_value(rest) {
+            Ok((_, behind)) => rest = behind,
+            Err(refusal) => return Err(refusal),
+        }
+    }
+    Ok(rest)
+}
