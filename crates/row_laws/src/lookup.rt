@@ -6,7 +6,7 @@ ghost use Rattle.hse_rows.specs.declared.row.Row.{Row as a_row};
 ghost use Rattle.hse_rows.specs.rows.Meaning.{contents_of, own_at, covered_at, said, value_said};
 ghost use Rattle.row_laws.specs.Sources.{all_rows, Falls, first_said};
 ghost use Rattle.row_laws.specs.Lookup.{word_of};
-ghost use Rattle.hse_rows.specs.rows.RowSets.{row_of};
+ghost use Rattle.hse_rows.specs.rows.RowSets.{row_by, row_of};
 
 use hse_rows::{ChangeRef, RowRef, RowSet};
 
@@ -42,17 +42,25 @@ fn word_under(row: RowRef<'_>, number: u64) -> Word<'_>
     word_of_row(row)
 }
 
-/// What a source says of a key. It takes no memory.
-pub fn word_in<'a, R: RowSet>(source: &'a R, key: &[u8]) -> Word<'a>
-    ensures { word_of result ≡ said
-        (own_at key.now (R.rows source.now)) (covered_at key.now (R.rows source.now)) }
+/// What a key's own row and the greatest number of a prefix delete that covers the key say of it. It
+/// takes no memory.
+pub fn word_from(own: Option<RowRef<'_>>, covered: Option<u64>) -> Word<'_>
+    ensures { word_of result ≡ said (row_by own.entry) covered }
 {
-    match (source.find(key), source.covered(key)) {
+    match (own, covered) {
         (None, None) => Word::Nothing,
         (None, Some(_)) => Word::Absent,
         (Some(row), None) => word_of_row(row),
         (Some(row), Some(number)) => word_under(row, number),
     }
+}
+
+/// What a source says of a key. It takes no memory.
+pub fn word_in<'a, R: RowSet>(source: &'a R, key: &[u8]) -> Word<'a>
+    ensures { word_of result ≡ said
+        (own_at key.now (R.rows source.now)) (covered_at key.now (R.rows source.now)) }
+{
+    word_from(source.find(key), source.covered(key))
 }
 
 /// What the first of these sources that says something of a key says. It takes no memory.

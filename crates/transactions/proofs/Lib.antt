@@ -1,0 +1,4 @@
+pub mod NewerLemmas
+pub mod OwnLemmas
+pub mod ReadLemmas
+pub mod StandLemmas
