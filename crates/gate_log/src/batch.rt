@@ -52,7 +52,7 @@ impl Batch {
     }
 
     /// What the batch takes of a region, its gate included, in bytes.
-    pub(crate) fn need(&self) -> u64
+    pub fn need(&self) -> u64
         ensures { result ≡ need_of self.now }
     {
         self.framed.len() as u64

@@ -1,0 +1,9 @@
+//! Tests of the device's layout and its manifest over their public calls.
+#![tactic(auto)]
+
+#[cfg(test)]
+mod device;
+#[cfg(test)]
+mod loads;
+#[cfg(test)]
+mod rolls;

@@ -1,0 +1,7 @@
+pub mod ManyLemmas
+pub mod RunLemmas
+pub mod StoreLemmas
+pub mod BatchLemmas
+pub mod HeadLemmas
+pub mod LogLemmas
+pub mod RollLemmas

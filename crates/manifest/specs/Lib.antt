@@ -1,0 +1,12 @@
+pub mod Metadata
+pub mod Text
+pub mod Reading
+pub mod Half
+pub mod Views
+pub mod HeadViews
+pub mod Loading
+pub mod Faults
+pub mod Writing
+pub mod Entries
+pub mod MayCome
+pub mod laws

@@ -1,0 +1,3 @@
+-- Laws of the manifest, for the crates above.
+pub mod OneManifest
+pub mod Again

@@ -1,0 +1,28 @@
+//! The manifest of a device: which stores live, by a base and the creations and drops behind it.
+#![tactic(auto)]
+
+mod base;
+mod batches;
+mod change;
+mod describe;
+mod encode;
+mod entries;
+mod entry;
+mod fault;
+mod heads;
+mod laws;
+mod loaded;
+mod loading;
+mod manifest;
+mod runs;
+mod stores;
+mod writing;
+
+pub use base::{Base, BaseStore, TakenRun};
+pub use encode::encode_entry;
+pub use entry::Entry;
+pub use fault::ManifestFault;
+pub use laws::{entries_are_read, manifests_have_one_reading};
+pub use loaded::{LoadFault, Loaded};
+pub use loading::load;
+pub use manifest::Manifest;
