@@ -1,11 +1,17 @@
 -- What readers of blocks give is what reading gives on lists.
-use Rattle.std.specs.Prelude.{◌≡◌, ℕ, Result, Ok, Err}
+use Rattle.std.specs.Prelude.{◌≡◌, ℕ, List, Option, Some, None, Result, Ok, Err}
+use denote.Ref.{Bor}
 use Rattle.hse_fields.specs.declared.block.Left.{Left}
 use Rattle.hse_fields.specs.declared.block.Damaged.{Damaged}
 
 -- a block that is damaged at this place
 abbrev pub damaged : ℕ → Damaged
 damaged place = record { 0 = place }
+
+-- bytes that are lent
+abbrev pub lent : Option (Bor (List ℕ)) → Option (List ℕ)
+lent (Some bytes) = Some bytes.now
+lent None = None
 
 -- a reader of fields, whose result is seen by view
 abbrev pub Gives : {X Y : Type 0} → (X → Y) → Result X Left → Result Y ℕ → Type 0

@@ -5,7 +5,7 @@ use Rattle.std.specs.Ordering.{nat_cmp, is_lt}
 use Rattle.std.specs.Cmp.Lexicographic.{slice_cmp}
 use Rattle.byteorder.specs.Endian.{big_number}
 use Rattle.hse_fields.specs.Fields.{number_of, bytes_of}
-use Rattle.hse_fields.specs.LogLimits.{longest_key, longest_prefix, longest_value}
+use Rattle.hse_fields.specs.LogLimits.{longest_key, longest_prefix, value_limit}
 use Rattle.hse_fields.specs.LogReading.{◌>>=◌, ensure, sized_of}
 use Rattle.hse_fields.specs.BlockText.{header_size, page_size, page_cost, value_kind, prefix_kind, key_kind, PrefixEntry, KeyEntry}
 use Rattle.hse_fields.specs.declared.block.BlockHeader.{BlockHeader}
@@ -65,11 +65,11 @@ body_of used bytes = drop header_size (take used bytes)
 
 -- ---- values
 
--- so many values
+-- So many values. A length above the limit of a value is refused at itself.
 unfoldable pub values_of : ℕ → List ℕ → Result (List (List ℕ) × List ℕ) ℕ
 values_of zero bytes = Ok ([], bytes)
 values_of (suc n) bytes = do
-  first ← sized_of 4 0 longest_value bytes
+  first ← sized_of 4 0 value_limit bytes
   others ← values_of n first.1
   Ok (first.0 ∷ others.0, others.1)
 
@@ -236,11 +236,11 @@ key_header_of bytes = do
   some ← ensure (nat_lt 0 head.count && head.count == count_all head.pages (drop header_size bytes)) 8
   Ok head
 
--- The keys of a block by its pages, or the place of the first refused field. What stands behind the used bytes is not
--- read.
-unfoldable pub key_block_of : List ℕ → Result (List (List KeyEntry)) ℕ
-key_block_of bytes = do
+-- The keys of a block by its pages, the first of which stands behind the last key of the block before, or the place of
+-- the first refused field. What stands behind the used bytes is not read.
+unfoldable pub key_block_of : Option (List ℕ) → List ℕ → Result (List (List KeyEntry)) ℕ
+key_block_of last bytes = do
   head ← key_header_of bytes
-  pages ← pages_of header_size None head.pages (body_of head.used bytes)
+  pages ← pages_of header_size last head.pages (body_of head.used bytes)
   counted ← placed head.used (counts_of 0 head.pages (body_of head.used bytes) (drop (page_size * head.pages) (body_of head.used bytes)))
   Ok pages

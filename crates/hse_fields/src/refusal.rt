@@ -1,5 +1,6 @@
 //! Why bytes were not read.
 
+use crate::block::Left;
 use crate::short::Short;
 use hse_io::NoMemory;
 use std::alloc::{AllocError, AllocFailed};
@@ -20,6 +21,17 @@ impl From<Short> for Refusal {
 
     fn from(short: Short) -> Self {
         Refusal::Left(short.have)
+    }
+}
+
+impl From<Left> for Refusal {
+    ghost use Rattle.std.specs.Prelude.{◌≡◌};
+    ghost use Rattle.hse_fields.specs.declared.refusal.Refusal.TheVariants.{Left as BytesLeft};
+
+    ghost from_gives = { λ refused refusal. refusal ≡ BytesLeft refused.left };
+
+    fn from(refused: Left) -> Self {
+        Refusal::Left(refused.left)
     }
 }
 

@@ -4,7 +4,8 @@ ghost use Rattle.hse_fields.specs.BlockForm.{AreRising};
 ghost use Rattle.hse_fields.specs.BlockReading.{prefix_block_of, prefixes_with};
 ghost use Rattle.hse_fields.specs.BlockText.{header_size, prefixes_text};
 ghost use Rattle.prefix_delete.specs.Blocks.{in_block, last_prefix, Refuses};
-ghost use Rattle.prefix_delete.specs.Read.{lent, Gives};
+ghost use Rattle.prefix_delete.specs.Read.{Gives};
+ghost use Rattle.hse_fields.specs.BlockGiven.{lent};
 
 use crate::entry::Entry;
 use crate::fault::PrefixBlockFault;

@@ -1,43 +1,14 @@
 //! Reads the entries of a block of prefix deletes.
 ghost use Rattle.std.specs.Prelude.{◌≡◌, ◌≤◌, length, map, IfErr};
-ghost use Rattle.hse_fields.specs.BlockReading.{is_above, name_rises, prefix_of, prefixes_of};
+ghost use Rattle.hse_fields.specs.BlockReading.{prefix_of, prefixes_of};
 ghost use Rattle.prefix_delete.specs.Blocks.{in_block, last_prefix};
-ghost use Rattle.prefix_delete.specs.Read.{lent, Gives};
+ghost use Rattle.prefix_delete.specs.Read.{Gives};
+ghost use Rattle.hse_fields.specs.BlockGiven.{lent};
 
 use crate::entry::Entry;
-use hse_fields::{Refusal, split_bytes, split_u8, split_u64};
+use hse_fields::{LONGEST_PREFIX, Refusal, split_name, split_u64};
 use hse_rows::{Prefix, PrefixFault};
 use std::alloc::Global;
-use std::cmp::Ordering;
-
-/// The most bytes that a prefix has.
-const LONGEST_PREFIX: u8 = 32;
-
-/// Whether a prefix stands above the last one, if there is one.
-fn is_above(last: Option<&[u8]>, prefix: &[u8]) -> bool
-    ensures { result ≡ is_above (lent last.entry) prefix.now }
-{
-    match last {
-        None => true,
-        Some(last) => match last.cmp(prefix) {
-            Ordering::Less => true,
-            Ordering::Equal => false,
-            Ordering::Greater => false,
-        },
-    }
-}
-
-/// Whether the prefix that is so many of these bytes stands above the last one. One that is cut off
-/// does not tell.
-fn rises(last: Option<&[u8]>, size: u8, bytes: &[u8]) -> bool
-    ensures { result ≡ name_rises (lent last.entry) size bytes.now }
-{
-    if bytes.len() < size as usize {
-        return true;
-    }
-    let (prefix, _) = bytes.split_at(size as usize);
-    is_above(last, prefix)
-}
 
 /// A prefix of 1 to 32 bytes.
 fn prefix(alloc: Global, bytes: &[u8]) -> Result<Prefix, Refusal>
@@ -45,7 +16,7 @@ fn prefix(alloc: Global, bytes: &[u8]) -> Result<Prefix, Refusal>
     requires short { length bytes.now ≤ 32 }
     ensures { Gives (λ prefix. prefix) result (Ok bytes.now) }
 {
-    match Prefix::new(alloc, bytes, LONGEST_PREFIX) {
+    match Prefix::new(alloc, bytes, LONGEST_PREFIX as u8) {
         Ok(prefix) => Ok(prefix),
         Err(PrefixFault::Length(_)) => unreachable!(),
         Err(PrefixFault::NoMemory) => Err(Refusal::NoMemory),
@@ -53,7 +24,7 @@ fn prefix(alloc: Global, bytes: &[u8]) -> Result<Prefix, Refusal>
 }
 
 /// An entry behind the last prefix, and the bytes behind it.
-#[tactic(auto, unfolding(hse_fields::specs::BlockReading::prefix_of, hse_fields::specs::BlockReading::name_of))]
+#[tactic(auto, unfolding(hse_fields::specs::BlockReading::prefix_of))]
 fn entry<'b>(
     alloc: Global,
     last: Option<&[u8]>,
@@ -62,14 +33,8 @@ fn entry<'b>(
     ensures { Gives (λ x. (in_block x.0, x.1.now)) result (prefix_of (lent last.entry) bytes.now) }
 {
     let (number, behind) = split_u64(bytes)?;
-    let (size, rest) = split_u8(behind)?;
-    if !rises(last, size, rest) {
-        return Err(Refusal::Left(bytes.len() as u64));
-    }
-    if size < 1 || size > LONGEST_PREFIX {
-        return Err(Refusal::Left(behind.len() as u64));
-    }
-    let (name, rest) = split_bytes(rest, size as u64)?;
+    let left = bytes.len() as u64;
+    let (name, rest) = split_name(behind, 1, LONGEST_PREFIX, last, left)?;
     let prefix = prefix(alloc, name)?;
     Ok((Entry { prefix, number }, rest))
 }

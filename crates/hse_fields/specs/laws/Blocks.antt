@@ -1,7 +1,7 @@
 -- A refused field of a block lies in what was read.
-use Rattle.std.specs.Prelude.{◌≡◌, ℕ, zero, suc, ◌≤◌, nat_le, ◌&&◌, List, [], ◌∷◌, length, Option, Some, Result, Ok, Err}
+use Rattle.std.specs.Prelude.{◌≡◌, ℕ, zero, suc, ◌≤◌, nat_le, ◌&&◌, List, ◌∷◌, length, Option, Some, Result, Ok, Err}
 use Rattle.std.proofs.Common.{refl}
-use Rattle.hse_fields.specs.LogLimits.{longest_prefix, longest_value}
+use Rattle.hse_fields.specs.LogLimits.{longest_prefix, value_limit}
 use Rattle.hse_fields.specs.LogReading.{◌>>=◌, ensure, sized_of}
 use Rattle.hse_fields.specs.Fields.{number_of, bytes_of}
 use Rattle.hse_fields.specs.BlockText.{PrefixEntry}
@@ -20,7 +20,7 @@ pub values_within : (n m : ℕ) (bytes : List ℕ) → length bytes ≤ m → Wi
 unfolding values_of
 values_within zero m bytes le = le
 values_within (suc n) m bytes le =
-    then m (sized_of 4 0 longest_value bytes) (others_of n) (sized_within 4 0 longest_value m bytes le)
+    then m (sized_of 4 0 value_limit bytes) (others_of n) (sized_within 4 0 value_limit m bytes le)
     (λ first h. values_within_rest m first.0 (values_of n first.1) (values_within n m first.1 h))
 
 behind_more : (first : List ℕ) (r : Result (List (List ℕ) × List ℕ) ℕ)
@@ -29,12 +29,12 @@ behind_more first (Ok x) = refl
 behind_more first (Err left) = refl
 
 -- behind values stands what stands behind the others
-pub values_behind : (n : ℕ) (bytes : List ℕ) (first : List ℕ × List ℕ) → sized_of 4 0 longest_value bytes ≡ Ok first
+pub values_behind : (n : ℕ) (bytes : List ℕ) (first : List ℕ × List ℕ) → sized_of 4 0 value_limit bytes ≡ Ok first
     → behind_of (values_of (suc n) bytes) ≡ behind_of (values_of n first.1)
 unfolding values_of
 values_behind n bytes first e = rw e (behind_more first.0 (values_of n first.1))
 
-pub values_refused : (n : ℕ) (bytes : List ℕ) (left : ℕ) → sized_of 4 0 longest_value bytes ≡ Err left
+pub values_refused : (n : ℕ) (bytes : List ℕ) (left : ℕ) → sized_of 4 0 value_limit bytes ≡ Err left
     → behind_of (values_of (suc n) bytes) ≡ Err left
 unfolding values_of
 values_refused n bytes left e = rw e refl

@@ -4,7 +4,7 @@ use Rattle.std.proofs.Common.{refl, sym, ap, subst, ◌∙◌, append_assoc, ari
 use Rattle.std.proofs.lemmas.Bool.{leb-true, le-leb, le-ltb, eqb-true, and_parts}
 use Rattle.std.proofs.lemmas.List.{take_at}
 use Rattle.byteorder.specs.Endian.{big_bytes}
-use Rattle.hse_fields.specs.LogText.{Kind, put, del, pdel, Change, code, sized, value_text, change_text, head_text}
+use Rattle.hse_fields.specs.LogText.{Kind, put, del, pdel, Change, code, sized, value_text, change_text}
 use Rattle.hse_fields.specs.LogOrder.{may_follow, kind_may_follow, store_may_follow}
 use Rattle.hse_fields.specs.LogLimits.{longest_value}
 use Rattle.hse_fields.specs.LogForm.{longest_name, ValueFits, IsChange}

@@ -1,6 +1,5 @@
 -- Prefix deletes that are read are those that were written, and what was written is read again.
-use Rattle.std.specs.Prelude.{◌≡◌, ℕ, zero, suc, ◌+◌, ◌^◌, ◌<◌, ◌≤◌, Bool, true, false, List, [], ◌∷◌, ◌++◌, length, take, Option, Some, None, Result, Ok, Err, nat_lt, nat_le, ◌==◌, ◌&&◌, ◌||◌}
-use Rattle.std.specs.List.{flat_map}
+use Rattle.std.specs.Prelude.{◌≡◌, ℕ, zero, suc, ◌+◌, ◌^◌, ◌<◌, ◌≤◌, true, false, List, [], ◌∷◌, ◌++◌, length, take, Option, Some, Ok, nat_lt, nat_le, ◌==◌, ◌&&◌}
 use Rattle.std.proofs.Common.{refl, sym, ap, subst, ◌∙◌, append_assoc, arith, length-append}
 use Rattle.std.proofs.lemmas.Bool.{eqb-true, le-leb, leb-true, le-ltb, and_parts}
 use Rattle.std.proofs.lemmas.List.{append-nil, nil_from_length, take_at}
@@ -11,7 +10,7 @@ use Rattle.hse_fields.specs.LogLimits.{longest_prefix}
 use Rattle.hse_fields.specs.LogText.{sized}
 use Rattle.hse_fields.specs.LogReading.{◌>>=◌, ensure}
 use Rattle.hse_fields.specs.BlockText.{header_size, prefix_kind, block_header, block_text, PrefixEntry, prefix_text, prefixes_text, prefix_block_text}
-use Rattle.hse_fields.specs.BlockReading.{body_of, header, placed, plain_header_of, is_above, name_rises, name_of, prefix_entry, prefix_of, prefixes_of, prefixes_with, prefix_block_of}
+use Rattle.hse_fields.specs.BlockReading.{body_of, placed, plain_header_of, is_above, name_rises, name_of, prefix_entry, prefix_of, prefixes_of, prefixes_with, prefix_block_of}
 use Rattle.hse_fields.specs.BlockForm.{AreRising, ArePrefixEntries}
 use Rattle.hse_fields.specs.laws.Fields.{IsBytes, IsBytes-drop, IsBytes-take, IsWidth, bind_ok, ensure_ok, ok_is, Takes, Takes-then, width_1, width_8, number_takes, number_again, bytes_takes, bytes_again, behind_size}
 use Rattle.hse_fields.specs.laws.BlockHeaders.{TakesHeader, plain_takes, block_takes, body_length, body_again, text_header, placed_ok}

@@ -1,21 +1,21 @@
 -- Values that are read are those that were written, and what was written is read again.
-use Rattle.std.specs.Prelude.{◌≡◌, ℕ, zero, suc, ◌+◌, ◌^◌, ◌<◌, ◌≤◌, Bool, true, List, [], ◌∷◌, ◌++◌, length, take, Result, Ok, ◌==◌}
-use Rattle.std.specs.List.{flat_map, AllByRecursion}
+use Rattle.std.specs.Prelude.{◌≡◌, ℕ, zero, suc, ◌+◌, ◌<◌, ◌≤◌, List, [], ◌∷◌, ◌++◌, length, take, Ok, ◌==◌}
+use Rattle.std.specs.List.{AllByRecursion}
 use Rattle.std.proofs.Common.{refl, sym, ap, subst, ◌∙◌, append_assoc, arith, length-append}
 use Rattle.std.proofs.lemmas.Bool.{eqb-true}
 use Rattle.std.proofs.lemmas.List.{append-nil, nil_from_length}
 use Rattle.hse_fields.specs.declared.block.BlockHeader.{BlockHeader}
-use Rattle.hse_fields.specs.LogLimits.{longest_value}
+use Rattle.hse_fields.specs.LogLimits.{value_limit}
 use Rattle.hse_fields.specs.LogText.{sized}
 use Rattle.hse_fields.specs.LogReading.{◌>>=◌, ensure, sized_of}
 use Rattle.hse_fields.specs.BlockText.{header_size, value_kind, block_header, block_text, values_text, value_block_text}
-use Rattle.hse_fields.specs.BlockReading.{body_of, header, placed, plain_header_of, values_of, values_with, value_block_of}
+use Rattle.hse_fields.specs.BlockReading.{body_of, placed, plain_header_of, values_of, values_with, value_block_of}
 use Rattle.hse_fields.specs.BlockForm.{AreValues}
 use Rattle.hse_fields.specs.laws.Fields.{IsBytes, IsBytes-drop, IsBytes-take, bind_ok, ensure_ok, ok_is, Takes, Takes-then, width_4, sized_takes, sized_again}
 use Rattle.hse_fields.specs.laws.BlockHeaders.{TakesHeader, plain_takes, block_takes, body_length, body_again, text_header, placed_ok}
 
 abbrev Small : List ℕ → Type 0
-Small value = length value < 2 ^ 32
+Small value = length value ≤ value_limit
 
 record TakesValues (n : ℕ) (bytes : List ℕ) (x : List (List ℕ) × List ℕ) : Type 0 where
   taken : Takes bytes (values_text x.0) x.1
@@ -27,11 +27,11 @@ unfolding values_of
 values_take zero bytes x fits e =
     subst (TakesValues 0 bytes) (ok_is ([], bytes) x e) (record { taken = record { parts = refl; rest_fits = fits }; counted = refl; each = tt })
 values_take (suc n) bytes x fits e =
-    let a = bind_ok (sized_of 4 0 longest_value bytes) (λ first. values_of n first.1 >>= λ others. Ok (first.0 ∷ others.0, others.1)) x e in
+    let a = bind_ok (sized_of 4 0 value_limit bytes) (λ first. values_of n first.1 >>= λ others. Ok (first.0 ∷ others.0, others.1)) x e in
     let b = bind_ok (values_of n a.0.1) (λ others. Ok (a.0.0 ∷ others.0, others.1)) x a.2 in
-    let first = sized_takes 4 width_4 0 longest_value bytes a.0.0 a.0.1 fits a.1 in
+    let first = sized_takes 4 width_4 0 value_limit bytes a.0.0 a.0.1 fits a.1 in
     let others = values_take n a.0.1 b.0 first.0.rest_fits b.1 in
-    let small : length a.0.0 < 2 ^ 32 = omega (arith, first.2) in
+    let small : length a.0.0 ≤ value_limit = omega (arith, first.2) in
     subst (TakesValues (suc n) bytes) (ok_is (a.0.0 ∷ b.0.0, b.0.1) x b.2)
     (record {
       taken = Takes-then bytes (sized 4 a.0.0) a.0.1 (values_text b.0.0) b.0.1 first.0 others.taken;
@@ -47,7 +47,7 @@ values_again (v ∷ vs) rest small =
     let regrouped : values_text (v ∷ vs) ++ rest ≡ sized 4 v ++ (values_text vs ++ rest) = append_assoc (sized 4 v) (values_text vs) rest in
     ap (values_of (suc (length vs))) regrouped
     ∙ rw (
-      sized_again 4 0 longest_value v (values_text vs ++ rest) (omega (arith, small.0)) (omega arith) (omega (arith, small.0)),
+      sized_again 4 0 value_limit v (values_text vs ++ rest) (omega (arith, small.0)) (omega arith) (omega (arith, small.0)),
       values_again vs rest small.1,
     ) refl
 

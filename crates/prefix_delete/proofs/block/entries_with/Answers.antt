@@ -7,7 +7,7 @@ use Rattle.hse_fields.specs.laws.Fields.{IsBytes, IsBytes-drop, IsBytes-take}
 use Rattle.hse_fields.specs.laws.PrefixTexts.{prefixes_take}
 use Rattle.hse_fields.specs.laws.Within.{Within}
 use Rattle.prefix_delete.specs.Blocks.{in_block}
-use Rattle.prefix_delete.specs.Read.{lent}
+use Rattle.hse_fields.specs.BlockGiven.{lent}
 use Rattle.prefix_delete.proofs.block.entries_with.Goals as goal
 
 pub overflow_sub-result : goal.overflow_sub-result

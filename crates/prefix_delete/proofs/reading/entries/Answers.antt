@@ -5,7 +5,8 @@ use Rattle.hse_fields.specs.BlockText.{PrefixEntry}
 use Rattle.hse_fields.specs.BlockReading.{prefix_of, prefixes_of}
 use Rattle.prefix_delete.specs.declared.entry.Entry.{Entry}
 use Rattle.prefix_delete.specs.Blocks.{in_block, last_prefix}
-use Rattle.prefix_delete.specs.Read.{lent, Fails}
+use Rattle.prefix_delete.specs.Read.{Fails}
+use Rattle.hse_fields.specs.BlockGiven.{lent}
 use Rattle.prefix_delete.proofs.ReadingLoop.{goes_on, stops, is_done, last_pushed, with_beginning}
 use Rattle.prefix_delete.proofs.reading.entries.Goals as goal
 

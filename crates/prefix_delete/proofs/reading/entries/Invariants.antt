@@ -1,7 +1,7 @@
 use Rattle.std.proofs.Common.{◌≡◌, ◌-◌, map}
 use Rattle.hse_fields.specs.BlockReading.{prefixes_of}
 use Rattle.prefix_delete.specs.Blocks.{in_block, last_prefix}
-use Rattle.prefix_delete.specs.Read.{lent}
+use Rattle.hse_fields.specs.BlockGiven.{lent}
 use Rattle.prefix_delete.proofs.ReadingLoop.{with_beginning}
 use Rattle.prefix_delete.proofs.reading.entries.Given as goal
 

@@ -1,6 +1,6 @@
 use Rattle.std.proofs.Common.{◌≡◌, ◌∙◌, ◌-◌, sym, ap, length, Some, ℕ, List}
 use Rattle.std.specs.Prelude.{slice_get}
-use Rattle.prefix_delete.specs.Read.{lent}
+use Rattle.hse_fields.specs.BlockGiven.{lent}
 use Rattle.prefix_delete.proofs.ReadingLoop.{last_is}
 use Rattle.prefix_delete.proofs.reading.last_of.Goals as goal
 

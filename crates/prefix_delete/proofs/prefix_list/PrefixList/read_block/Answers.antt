@@ -4,7 +4,7 @@ use Rattle.hse_fields.specs.BlockReading.{prefix_block_of}
 use Rattle.prefix_delete.specs.declared.entry.Entry.{Entry}
 use Rattle.prefix_delete.specs.Blocks.{in_block, of_block, last_prefix}
 use Rattle.prefix_delete.specs.Prefixes.{ArePrefixes, AreUsed}
-use Rattle.prefix_delete.specs.Read.{lent}
+use Rattle.hse_fields.specs.BlockGiven.{lent}
 use Rattle.prefix_delete.proofs.RisingLemmas.{joined_prefixes, joined_used, of_in_block}
 use Rattle.prefix_delete.proofs.prefix_list.PrefixList.read_block.Goals as goal
 
