@@ -1,5 +1,5 @@
 use gate_log::{Batch, Region, append, read_front, start};
-use hse_rows::{Change, ChangeRef, Key, StoreId, Value, WriteSet};
+use hse_rows::{Change, ChangeRef, Key, StoreId, TakenRun, Value, WriteSet};
 use media_disk::MemDisk;
 use std::alloc::Global;
 use std::process::Abort;
@@ -75,7 +75,7 @@ fn segment(
     bytes: &[u8],
     (place, byte): (usize, u8),
     (size, most): (u64, u64),
-    taken: &[u64],
+    taken: &[TakenRun],
 ) -> Result<Result<Segment, SegmentFault>, Fail> {
     let mut bytes = bytes.to_vec(alloc)?;
     if let Some(at) = bytes.get_mut(place) {
@@ -85,7 +85,6 @@ fn segment(
     let mut disk = MemDisk::of(alloc, bytes);
     let len = disk.bytes().len();
     assert!(rt; len == 144);
-    assert!(rt; taken.len() < 10);
     assert!(rt; size >= 10);
     assert!(rt; size <= 144);
     let front = read_front(alloc, &mut disk, &Region { at: 0, size })?.ok_or("the head is closed")?;
@@ -124,7 +123,8 @@ fn a_batch_of_one_commit_has_these_bytes(rt: HostRuntime) -> Result<(), Fail> {
 
 #[test]
 fn a_segment_gives_its_commits(rt: HostRuntime) -> Result<(), Fail> {
-    let segment = segment(&rt, rt.alloc(), &PUT, (0, 0x4f), (128, 1), &[])??;
+    let none: [TakenRun; 0] = [];
+    let segment = segment(&rt, rt.alloc(), &PUT, (0, 0x4f), (128, 1), &none)??;
     assert_eq!(rt; segment.sequence, 1);
     assert_eq!(rt; segment.charges, 61);
     assert_eq!(rt; segment.tail.place, 47);
@@ -141,9 +141,12 @@ fn a_segment_gives_its_commits(rt: HostRuntime) -> Result<(), Fail> {
 
 #[test]
 fn taken_numbers_are_skipped(rt: HostRuntime) -> Result<(), Fail> {
-    let found = segment(&rt, rt.alloc(), &PUT, (25, 4), (128, 1), &[1, 2, 3, 5])?;
+    let five = TakenRun { first: 5, count: 1 };
+    let taken = [TakenRun { first: 1, count: 3 }, five];
+    let found = segment(&rt, rt.alloc(), &PUT, (25, 4), (128, 1), &taken)?;
     assert!(rt; found.is_ok());
-    let fault = segment(&rt, rt.alloc(), &PUT, (25, 4), (128, 1), &[2, 5])?.err();
+    let taken = [TakenRun { first: 2, count: 1 }, five];
+    let fault = segment(&rt, rt.alloc(), &PUT, (25, 4), (128, 1), &taken)?.err();
     assert_eq!(rt; fault, Some(SegmentFault::Damaged(18)));
     Ok(())
 }
@@ -186,12 +189,13 @@ static PREFIXES: [((usize, u8), (u64, u64), u64); 11] = [
 
 #[test]
 fn each_damaged_field_is_reported_by_its_place(rt: HostRuntime) -> Result<(), Fail> {
+    let none: [TakenRun; 0] = [];
     for (change, limits, want) in PUTS {
-        let fault = segment(&rt, rt.alloc(), &PUT, change, limits, &[])?.err();
+        let fault = segment(&rt, rt.alloc(), &PUT, change, limits, &none)?.err();
         assert_eq!(rt; fault, Some(SegmentFault::Damaged(want)));
     }
     for (change, limits, want) in PREFIXES {
-        let fault = segment(&rt, rt.alloc(), &DELETES, change, limits, &[])?.err();
+        let fault = segment(&rt, rt.alloc(), &DELETES, change, limits, &none)?.err();
         assert_eq!(rt; fault, Some(SegmentFault::Damaged(want)));
     }
     Ok(())

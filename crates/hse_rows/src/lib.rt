@@ -17,6 +17,7 @@ mod row_set;
 mod script_laws;
 mod shared_bytes;
 mod store;
+mod taken_run;
 mod value;
 mod write;
 mod write_set;
@@ -45,6 +46,7 @@ pub use script_laws::{
     scripts_are_isolated, scripts_are_sound, turns_are_one_step,
 };
 pub use store::{Mode, StoreId};
+pub use taken_run::TakenRun;
 pub use value::{Value, ValueFault};
 pub use write::Write;
 pub use write_set::WriteSet;

@@ -8,3 +8,4 @@ pub mod SegmentLemmas
 pub mod SoundLemmas
 pub mod TextLemmas
 pub mod PayloadLemmas
+pub mod RunLemmas

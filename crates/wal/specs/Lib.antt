@@ -3,6 +3,7 @@ pub mod Kinds
 pub mod Charges
 pub mod Live
 pub mod Numbering
+pub mod Past
 pub mod Room
 pub mod Expected
 pub mod Given

@@ -21,6 +21,7 @@ mod text_laws;
 
 pub use commit::Commit;
 pub use encode::{encode_batch, put_entry};
+pub use expected::first_free;
 pub use live::StorePrefix;
 pub use number_laws::{
     entries_follow_the_numbers, later_taken_numbers_change_nothing, numbers_without_a_gap_follow,

@@ -1,5 +1,6 @@
 //! Reads a segment from what its region holds.
-ghost use Rattle.std.specs.Prelude.{◌≡◌, ℕ, ◌+◌, ◌^◌, ◌<◌, ◌≤◌, List, length, Some, IfOk, IsErrOf};
+ghost use Rattle.std.specs.Prelude.{◌≡◌, ℕ, ◌+◌, ◌^◌, ◌≤◌, List, Some, IfOk, IsErrOf};
+ghost use Rattle.hse_rows.specs.machine.TakenRuns.{numbers_of, runs_as};
 ghost use Rattle.gate_log.specs.Reading.{payloads_of, IsFront, LiesInside};
 ghost use Rattle.wal.specs.Replaying.{segment_of, starting, IsReplay, Says};
 ghost use Rattle.wal.specs.Sound.{IsSound};
@@ -8,6 +9,7 @@ use crate::expected::Expected;
 use crate::reader::Reader;
 use crate::{Segment, SegmentFault, StorePrefix};
 use gate_log::{End, Front};
+use hse_rows::TakenRun;
 use std::alloc::Global;
 
 /// What a region's end takes of a segment's room, in bytes.
@@ -16,7 +18,7 @@ const END: u64 = 64;
 /// The commits of a segment, by what the region of this size holds, as `gate_log::read_front` gives
 /// it; so a caller can test the sequence first. Values have at most `most` bytes, the first commit
 /// has the number `next` or, where that is taken, the first one behind it that is not; `taken` are
-/// the numbers that the manifest has taken, ascending. `live` has the prefix length of each live
+/// the numbers that the manifest has taken, ascending, in runs. `live` has the prefix length of each live
 /// store.
 ///
 /// `Damaged` has the place in the region of the first field that is refused: of the first batch
@@ -33,21 +35,22 @@ pub fn segment_in<'a>(
     size: u64,
     most: u64,
     next: u64,
-    taken: &'a [u64],
+    taken: &'a [TakenRun],
     live: &'a [StorePrefix],
     front: Front,
 ) -> Result<Segment, SegmentFault>
     requires inside { LiesInside size (payloads_of front.batches.items) front.end }
     requires next { next ≤ 2 ^ 62 + 1 }
-    requires taken { length taken.now < 2 ^ 62 }
     ensures read { (region : List ℕ) → IsFront region (Some front)
-        → IsReplay region live.now most (starting next taken.now size) result }
+        → IsReplay region live.now most
+        (starting next (numbers_of (runs_as taken.now)) size) result }
     // The same whatever the device tells.
-    ensures gives { Says (segment_of live.now most (starting next taken.now size)
+    ensures gives { Says (segment_of live.now most
+        (starting next (numbers_of (runs_as taken.now)) size)
         (payloads_of front.batches.items) front.end) result }
     // The place lies in the region, or at its end.
     ensures within { (place : ℕ) → IsErrOf result (SegmentFault.Damaged place) → place ≤ size }
-    ensures sound { IfOk result (IsSound size next taken.now live.now front) }
+    ensures sound { IfOk result (IsSound size next (numbers_of (runs_as taken.now)) live.now front) }
 {
     let room = size.saturating_sub(END);
     let reader = Reader {

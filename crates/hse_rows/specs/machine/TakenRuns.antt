@@ -1,5 +1,6 @@
 -- Numbers in runs: as few as say them, where each is of numbers that follow one another.
-use Rattle.std.specs.Prelude.{ℕ, ◌+◌, ◌^◌, ◌-◌, ◌==◌, nat_lt, ◌&&◌, if◌then◌else◌, List, [], ◌∷◌}
+use Rattle.std.specs.Prelude.{ℕ, zero, suc, ◌+◌, ◌^◌, ◌-◌, ◌==◌, nat_lt, ◌&&◌, if◌then◌else◌, List, [], ◌∷◌, ◌++◌, map}
+use Rattle.hse_rows.specs.declared.taken_run.TakenRun.{TakenRun}
 
 pub record NumberRun : Type 0 where
   pub first : ℕ
@@ -21,3 +22,19 @@ runs_from first count (number ∷ numbers) =
 abbrev pub runs_of : List ℕ → List NumberRun
 runs_of [] = []
 runs_of (number ∷ numbers) = runs_from number 1 numbers
+
+-- so many numbers from this one on
+abbrev pub counted : ℕ → ℕ → List ℕ
+counted first zero = []
+counted first (suc count) = first ∷ counted (first + 1) count
+
+-- the numbers of runs, one run after another
+abbrev pub numbers_of : List NumberRun → List ℕ
+numbers_of [] = []
+numbers_of (run ∷ runs) = counted run.first run.count ++ numbers_of runs
+
+abbrev pub run_as : TakenRun → NumberRun
+run_as run = record { first = run.first; count = run.count }
+
+abbrev pub runs_as : List TakenRun → List NumberRun
+runs_as runs = map run_as runs

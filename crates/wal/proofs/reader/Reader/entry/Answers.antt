@@ -2,6 +2,7 @@ use Rattle.std.proofs.Common.{◌≡◌, ◌+◌, ◌-◌, ℕ, List, Ok, ap, sy
 use Rattle.hse_fields.specs.laws.Payloads.{entry}
 use Rattle.wal.specs.Expected.{numbers_as}
 use Rattle.wal.specs.Logged.{charge, logged_all}
+use Rattle.hse_rows.specs.machine.TakenRuns.{numbers_of, runs_as}
 use Rattle.wal.specs.Numbering.{Numbers, taken_from}
 use Rattle.wal.proofs.EntryLemmas.{over_room, within_room}
 use Rattle.wal.proofs.LengthLemmas.{charge_is}
@@ -24,5 +25,5 @@ returns c =
     behind c.in_ok-number.ensures (c.if-number-next.false ∙ c.first_free-next.ensures.number) c.if-number-gt-GREATEST_NUMBER.false c.in_ok-writes.ensures.read (omega (arith, is, c.if-self-charge.false)) in
     let taken : List ℕ → ℕ → Numbers = λ (t : List ℕ) (n : ℕ). record { next = c.in_ok-number.number + 1; taken = t; room = c.args.self.expected.room - n } in
     read ∙ ap (λ (s : Numbers). Ok ((entry c.in_ok-number.number (logged_all c.in_ok-writes.writes), s), c.in_ok-writes.rest.now))
-    (ap (λ (n : ℕ). taken (taken_from c.args.self.expected.next c.args.self.expected.taken.now) n) is
+    (ap (λ (n : ℕ). taken (taken_from c.args.self.expected.next (numbers_of (runs_as c.args.self.expected.taken.now))) n) is
     ∙ ap (λ (t : List ℕ). taken t c.charge-charge.result) (sym c.first_free-next.ensures.taken))
