@@ -1,5 +1,5 @@
 -- A list in chunks: where a part stands, and a part in place of another.
-use Rattle.std.proofs.Common.{◌≡◌, ℕ, zero, suc, ◌+◌, ◌*◌, ◌/◌, ◌%◌, ◌<◌, ◌≤◌, List, [], ◌∷◌, ◌++◌, length, get_or, take, drop, refl, ap, sym, ◌∙◌, subst, arith, append_assoc, append-nil, inl, inr}
+use Rattle.std.proofs.Common.{◌≡◌, ℕ, zero, suc, ◌+◌, ◌*◌, ◌/◌, ◌%◌, ◌<◌, ◌≤◌, List, [], ◌∷◌, ◌++◌, length, get_or, take, drop, refl, ap, sym, ◌∙◌, arith, append_assoc, append-nil, inl, inr}
 use Rattle.std.proofs.lemmas.Grind.{flat_map-append}
 use Rattle.std.proofs.lemmas.List.{length-append}
 use Rattle.std.proofs.lemmas.List.Concat.{get_or-flat_map}
@@ -55,6 +55,18 @@ module _ {X : Type 0} where
       let same : k ≡ length (joined (take (k / 8) cs)) + k % 8 = omega (arith, front) in
       ap (λ n. get_or (joined cs) n d) same
       ∙ get_or-flat_map (λ c. c) cs (k / 8) (k % 8) e d place.0 place.1
+
+  -- the part at the start of a chunk is the chunk's first
+  head-mark : (mark : X → Mark) (c : List X) (p : X) → 0 < length c → p ≡ get_or c 0 p → first_mark mark c ≡ mark p
+  head-mark mark [] p some is = absurd (omega (arith, some))
+  head-mark mark (q ∷ c) p some is = ap mark (sym is)
+
+  pub first-in : (mark : X → Mark) (cs : List (List X)) (k : ℕ) (e : List X) (p : X) → AreChunks cs → k % 8 ≡ 0 → k < length (joined cs) → p ≡ get_or (joined cs) k p
+      → first_mark mark (get_or cs (k / 8) e) ≡ mark p
+  first-in mark cs k e p are start within is =
+      let place = (place-in cs k e are within).1 in
+      head-mark mark (get_or cs (k / 8) e) p (omega (arith, place, start))
+      (is ∙ item-in cs k e p are within ∙ ap (λ j. get_or (get_or cs (k / 8) e) j p) start)
 
   -- ---- one part in place of another
 

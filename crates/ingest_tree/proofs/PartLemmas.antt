@@ -14,7 +14,7 @@ use Rattle.sorted_lists.specs.laws.Lists.{each-weaker, filter-all, filter-none}
 use Rattle.sorted_lists.specs.laws.Orders.{turned}
 use Rattle.ingest_tree.specs.declared.store_row.StoreRow.{StoreRow}
 use Rattle.ingest_tree.specs.Rows.{store_row_cmp}
-use Rattle.ingest_tree.specs.Parts.{IsChild}
+use Rattle.ingest_tree.specs.Parts.{IsChild, IsWithin}
 use Rattle.ingest_tree.proofs.OrderLemmas.{order, alike}
 
 abbrev Rising : List StoreRow → Type 0
@@ -68,18 +68,11 @@ module _ {X : Type 0} (rows : X → List StoreRow) where
       before-below order (flat_map rows (take i ps)) h (drop 1 (rows (get_or ps i d)) ++ flat_map rows (drop (suc i) ps)) x
       (subst Rising (flat-cut ps i ∙ ap (λ l. flat_map rows (take i ps) ++ l) (from-head ps i d h in' at)) rise) up
 
-  -- where the part of a row is looked for
-  pub record IsWithin (ps : List X) (x : StoreRow) (low high : ℕ) : Type 0 where
-    pub some : low < high
-    pub within : high ≤ length ps
-    pub before : AllByRecursion (λ other. store_row_cmp other x ≡ Less) (flat_map rows (take low ps))
-    pub behind : AllByRecursion (λ other. store_row_cmp x other ≡ Less) (flat_map rows (drop high ps))
-
   none-behind : (ps : List X) → flat_map rows (drop (length ps) ps) ≡ []
   none-behind [] = refl
   none-behind (p ∷ ps) = none-behind ps
 
-  pub all-within : (ps : List X) (x : StoreRow) → 0 < length ps → IsWithin ps x 0 (length ps)
+  pub all-within : (ps : List X) (x : StoreRow) → 0 < length ps → IsWithin rows ps x 0 (length ps)
   all-within ps x some = record {
     some = some;
     within = omega arith;
@@ -87,7 +80,7 @@ module _ {X : Type 0} (rows : X → List StoreRow) where
     behind = subst (AllByRecursion (λ other. store_row_cmp x other ≡ Less)) (sym (none-behind ps)) tt;
   }
 
-  pub one-within : (ps : List X) (x : StoreRow) (low high : ℕ) → IsWithin ps x low high → high ≤ suc low → IsChild rows ps x low
+  pub one-within : (ps : List X) (x : StoreRow) (low high : ℕ) → IsWithin rows ps x low high → high ≤ suc low → IsChild rows ps x low
   one-within ps x low high in' near =
       let some = in'.some in
       let same : high ≡ suc low = omega (arith, some, near) in
@@ -114,11 +107,11 @@ module _ {X : Type 0} (rows : X → List StoreRow) where
       (rising-rest order (flat_map rows (take i ps)) (rows (get_or ps i d) ++ flat_map rows (drop (suc i) ps))
       (subst Rising (flat-split ps i d in') rise))
 
-  module _ (ps : List X) (x : StoreRow) (low high m : ℕ) (d : X) (p : X) (rise : Rising (flat_map rows ps)) (in' : IsWithin ps x low high) (is : p ≡ get_or ps m d) (begins : 0 < length (rows p)) where
+  module _ (ps : List X) (x : StoreRow) (low high m : ℕ) (d : X) (p : X) (rise : Rising (flat_map rows ps)) (in' : IsWithin rows ps x low high) (is : p ≡ get_or ps m d) (begins : 0 < length (rows p)) where
     head : slice_get (rows (get_or ps m d)) 0 ≡ Some (get_or (rows p) 0 x)
     head = ap (λ q. slice_get (rows q) 0) (sym is) ∙ slice_get-get_or (rows p) 0 x begins
 
-    pub narrowed-behind : low < m → m < high → ((row : StoreRow) → slice_get (rows p) 0 ≡ Some row → is_gt (store_row_cmp row x) ≡ true) → IsWithin ps x low m
+    pub narrowed-behind : low < m → m < high → ((row : StoreRow) → slice_get (rows p) 0 ≡ Some row → is_gt (store_row_cmp row x) ≡ true) → IsWithin rows ps x low m
     narrowed-behind above below up =
         let within = in'.within in
         let inside : m < length ps = omega (arith, below, within) in
@@ -129,7 +122,7 @@ module _ {X : Type 0} (rows : X → List StoreRow) where
           behind = narrow-behind ps m d (get_or (rows p) 0 x) x rise inside head (up (get_or (rows p) 0 x) (slice_get-get_or (rows p) 0 x begins));
         }
 
-    pub narrowed-before : m < high → ((row : StoreRow) → slice_get (rows p) 0 ≡ Some row → is_gt (store_row_cmp row x) ≡ false) → IsWithin ps x m high
+    pub narrowed-before : m < high → ((row : StoreRow) → slice_get (rows p) 0 ≡ Some row → is_gt (store_row_cmp row x) ≡ false) → IsWithin rows ps x m high
     narrowed-before below up =
         let within = in'.within in
         let inside : m < length ps = omega (arith, below, within) in
@@ -139,6 +132,17 @@ module _ {X : Type 0} (rows : X → List StoreRow) where
           before = narrow-before ps m d (get_or (rows p) 0 x) x rise inside head (up (get_or (rows p) 0 x) (slice_get-get_or (rows p) 0 x begins));
           behind = in'.behind;
         }
+
+pub got : {X : Type 0} (ps : List X) (m : ℕ) (p : X) → slice_get ps m ≡ Some p → (d : X) → get_or ps m d ≡ p
+got [] m p at d = absurd cc
+got (q ∷ ps) zero p at d = cc
+got (q ∷ ps) (suc m) p at d = got ps m p at d
+
+-- what holds by the part at a place
+pub at-place : {X C : Type 0} (ps : List X) (m : ℕ) → m < length ps → ((p : X) → slice_get ps m ≡ Some p → p ≡ get_or ps m p → C) → C
+at-place [] m in' k = absurd (omega (arith, in'))
+at-place (p ∷ ps) zero in' k = k p refl refl
+at-place (p ∷ ps) (suc m) in' k = at-place ps m (omega (arith, in')) k
 
 -- ---- a place in one part among others
 

@@ -34,6 +34,13 @@ pub record IsChild {X : Type 0} (rows : X → List StoreRow) (parts : List X) (r
   pub before : AllByRecursion (λ other. store_row_cmp other row ≡ Less) (flat_map rows (take i parts))
   pub behind : AllByRecursion (λ other. store_row_cmp row other ≡ Less) (flat_map rows (drop (suc i) parts))
 
+-- The part of a row is looked for between two places where all before the first stands below it, and all from the second on above.
+pub record IsWithin {X : Type 0} (rows : X → List StoreRow) (parts : List X) (row : StoreRow) (low high : ℕ) : Type 0 where
+  pub some : low < high
+  pub within : high ≤ length parts
+  pub before : AllByRecursion (λ other. store_row_cmp other row ≡ Less) (flat_map rows (take low parts))
+  pub behind : AllByRecursion (λ other. store_row_cmp row other ≡ Less) (flat_map rows (drop high parts))
+
 -- the first parts have their room before the others get any
 abbrev pub IsInOrder : {X : Type 0} → List X → List X → ℕ → Type 0
 IsInOrder first second cut = (length first ≤ cut) × (length first < cut → second ≡ [])

@@ -3,7 +3,7 @@ ghost use Rattle.std.specs.Prelude.{◌≡◌, ◌≤◌, ◌<◌, ◌+◌, ◌-
 ghost use Rattle.std.specs.Prelude.{length, take, drop, suc, IfOk, OnOk, vec_len};
 ghost use Rattle.ingest_tree.specs.Parts.{IsInOrder, parts_of};
 
-use crate::part::Grown;
+use crate::part::{Grown, Part};
 use crate::shelf::{Shelf, Twin};
 use crate::steps::Steps;
 use hse_io::NoMemory;
@@ -64,7 +64,9 @@ impl<T: Twin> Builder<T> {
         }
         Ok(())
     }
+}
 
+impl<T: Part> Builder<T> {
     /// Puts twins of the parts from one place up to another behind the others.
     fn put_range<L: Ledger>(
         &mut self,
@@ -132,7 +134,7 @@ pub(crate) fn put_in<T: Twin, L: Ledger>(
 }
 
 /// The parts with what one of them became in its place. Each is one step.
-pub(crate) fn rebuilt<T: Twin, L: Ledger>(
+pub(crate) fn rebuilt<T: Part, L: Ledger>(
     alloc: Global,
     parts: &Shelf<T>,
     at: usize,

@@ -11,7 +11,7 @@ use crate::builder::{Builder, rebuilt};
 use crate::mark::Mark;
 use crate::part::{Grown, Part};
 use crate::search::child_at;
-use crate::shelf::{Shelf, Twin};
+use crate::shelf::{Shelf, Twin, mark_over};
 use crate::steps::Steps;
 use crate::store_row::{SharedRow, Spot, StoreRow};
 use hse_io::NoMemory;
@@ -64,16 +64,6 @@ fn counted<T: Part>(parts: &[T]) -> Result<u64, NoMemory>
         }
     }
     Ok(count)
-}
-
-/// The mark of the first of these parts.
-fn mark_over<T: Part>(parts: &[T]) -> Mark
-    ensures { result ≡ first_mark T.marked parts.now }
-{
-    match parts.first() {
-        Some(part) => part.mark(),
-        None => Mark::none(),
-    }
 }
 
 /// The mark of a node of this mark after a part came to this place.

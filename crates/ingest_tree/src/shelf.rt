@@ -1,9 +1,12 @@
 //! A list in chunks, which lists that differ in one part share.
 ghost use Rattle.std.specs.Prelude.{◌≡◌, ◌≤◌, ◌<◌, ◌+◌, ◌/◌, ◌%◌, ◌∷◌, ◌++◌};
-ghost use Rattle.std.specs.Prelude.{length, take, drop, suc, get_or, IfOk};
+ghost use Rattle.std.specs.Prelude.{length, take, drop, suc, get_or, slice_get, Some, IfOk};
 ghost use Rattle.ingest_tree.specs.Chunks.{AreChunks, joined};
+ghost use Rattle.ingest_tree.specs.Marks.{first_mark};
 
 use crate::builder::put_in;
+use crate::mark::Mark;
+use crate::part::Part;
 use crate::steps::Steps;
 use hse_io::NoMemory;
 use std::alloc::Global;
@@ -19,30 +22,52 @@ pub(crate) trait Twin: Drop + Sized {
 }
 
 /// How many parts a chunk has.
-const ROOM: usize = 8;
+pub(crate) const ROOM: usize = 8;
 
-/// Up to eight parts in a row, which several lists share.
-#[derive(Drop)]
-pub(crate) struct Chunk<T: Drop> {
-    parts: Arc<Vec<T>>,
+/// The mark of the first of these parts.
+pub(crate) fn mark_over<T: Part>(parts: &[T]) -> Mark
+    ensures { result ≡ first_mark T.marked parts.now }
+{
+    match parts.first() {
+        Some(part) => part.mark(),
+        None => Mark::none(),
+    }
 }
 
-impl<T: Drop> Model for Chunk<T> {
-    ghost use Rattle.std.specs.Prelude.{List};
+/// Up to eight parts in a row, which several lists share, with the mark of the first beside them.
+#[derive(Drop)]
+pub(crate) struct Chunk<T: Part> {
+    parts: Arc<Vec<T>>,
+    mark: Mark,
+}
+
+impl<T: Part> Model for Chunk<T> {
+    ghost use Rattle.std.specs.Prelude.{◌≡◌, List};
     ghost use Rattle.std.specs.Arc.{arc_value};
+    ghost use Rattle.ingest_tree.specs.Marks.{first_mark};
 
     ghost Value = { List T };
 
     ghost view = { λ chunk. (arc_value chunk.parts).items };
+
+    ghost invariant = { λ chunk. chunk.mark ≡ first_mark T.marked (arc_value chunk.parts).items };
 }
 
-impl<T: Drop> Chunk<T> {
+impl<T: Part> Chunk<T> {
     /// A chunk of these parts.
     fn new(alloc: Global, parts: Vec<T>) -> Result<Chunk<T>, NoMemory>
         ensures { IfOk result (λ chunk. chunk ≡ parts.items) }
     {
+        let mark = mark_over(&parts);
         let parts = Arc::new(alloc, parts)?;
-        Ok(Chunk { parts })
+        Ok(Chunk { parts, mark })
+    }
+
+    /// The mark of its first part.
+    fn mark(&self) -> Mark
+        ensures { result ≡ first_mark T.marked self.now }
+    {
+        self.mark
     }
 
     /// Its parts.
@@ -53,22 +78,23 @@ impl<T: Drop> Chunk<T> {
     }
 }
 
-impl<T: Drop> Twin for Chunk<T> {
+impl<T: Part> Twin for Chunk<T> {
     fn share(&self) -> Result<Chunk<T>, NoMemory> {
         Ok(Chunk {
             parts: self.parts.clone()?,
+            mark: self.mark,
         })
     }
 }
 
 /// A list in chunks of eight, of which the last may have fewer. It never changes.
 #[derive(Drop)]
-pub(crate) struct Shelf<T: Drop> {
+pub(crate) struct Shelf<T: Part> {
     chunks: Arc<Vec<Chunk<T>>>,
     len: usize,
 }
 
-impl<T: Drop> Model for Shelf<T> {
+impl<T: Part> Model for Shelf<T> {
     ghost use Rattle.std.specs.Prelude.{◌≡◌, List, length};
     ghost use Rattle.std.specs.Arc.{arc_value};
     ghost use Rattle.ingest_tree.specs.Chunks.{AreChunks, joined};
@@ -81,7 +107,7 @@ impl<T: Drop> Model for Shelf<T> {
         × AreChunks (arc_value shelf.chunks).items };
 }
 
-impl<T: Drop> Twin for Shelf<T> {
+impl<T: Part> Twin for Shelf<T> {
     fn share(&self) -> Result<Shelf<T>, NoMemory> {
         Ok(Shelf {
             chunks: self.chunks.clone()?,
@@ -91,7 +117,7 @@ impl<T: Drop> Twin for Shelf<T> {
 }
 
 /// The chunks of these parts.
-fn cut_up<T: Drop>(alloc: Global, parts: Vec<T>) -> Result<Vec<Chunk<T>>, NoMemory>
+fn cut_up<T: Part>(alloc: Global, parts: Vec<T>) -> Result<Vec<Chunk<T>>, NoMemory>
     ensures joined { IfOk result (λ chunks. joined chunks.items ≡ parts.items) }
     ensures chunks { IfOk result (λ chunks. AreChunks chunks.items) }
 {
@@ -112,7 +138,7 @@ fn cut_up<T: Drop>(alloc: Global, parts: Vec<T>) -> Result<Vec<Chunk<T>>, NoMemo
 }
 
 /// The parts of the chunk that a place is in.
-fn chunk_over<T: Drop>(chunks: &[Chunk<T>], at: usize) -> &[T]
+fn chunk_over<T: Part>(chunks: &[Chunk<T>], at: usize) -> &[T]
     requires chunks { AreChunks chunks.now }
     requires within { at < length (joined chunks.now) }
     ensures chunk { result.now ≡ get_or chunks.now (at / 8) result.now }
@@ -122,7 +148,7 @@ fn chunk_over<T: Drop>(chunks: &[Chunk<T>], at: usize) -> &[T]
     chunks[at / ROOM].parts()
 }
 
-impl<T: Drop> Shelf<T> {
+impl<T: Part> Shelf<T> {
     /// The list of these parts.
     pub fn new(alloc: Global, parts: Vec<T>) -> Result<Shelf<T>, NoMemory>
         ensures { IfOk result (λ shelf. shelf ≡ parts.items) }
@@ -147,9 +173,18 @@ impl<T: Drop> Shelf<T> {
         let parts = chunk_over(&self.chunks, at);
         &parts[at % ROOM]
     }
+
+    /// The mark of the part at a place where a chunk begins. It reads no part.
+    pub fn mark_at(&self, at: usize) -> Mark
+        requires start { at % 8 ≡ 0 }
+        requires within { at < length self.now }
+        ensures { (part : _) → slice_get self.now at ≡ Some part → result ≡ T.marked part }
+    {
+        self.chunks[at / ROOM].mark()
+    }
 }
 
-impl<T: Twin> Shelf<T> {
+impl<T: Part> Shelf<T> {
     /// The list with a part in place of another. It shares all chunks but one. Each chunk and each
     /// part of the new chunk is a step.
     pub fn with<L: Ledger>(

@@ -1,4 +1,4 @@
-use Rattle.std.proofs.Common.{◌≡◌, ◌+◌, ◌-◌, ◌++◌, arith, length, take, drop, suc, ap, ◌∙◌}
+use Rattle.std.proofs.Common.{◌≡◌, ◌+◌, ◌-◌, ◌++◌, arith, take, drop, suc, ap, ◌∙◌}
 use Rattle.ingest_tree.specs.Parts.{parts_of}
 use Rattle.ingest_tree.proofs.ChunkLemmas.{range-end}
 use Rattle.ingest_tree.proofs.builder.rebuilt.Goals as goal

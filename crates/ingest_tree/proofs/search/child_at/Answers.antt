@@ -1,36 +1,34 @@
 use Rattle.std.proofs.Common.{◌+◌, ◌-◌, ◌/◌, subst, sym, ◌∙◌, arith}
 use Rattle.sorted_lists.specs.laws.Lists.{each-at}
 use Rattle.ingest_tree.specs.Rows.{row_at}
-use Rattle.ingest_tree.proofs.PartLemmas.{one-within, narrowed-behind, narrowed-before}
+use Rattle.ingest_tree.proofs.PartLemmas.{at-place, one-within, narrowed-behind, narrowed-before}
 use Rattle.ingest_tree.proofs.search.child_at.Goals as goal
 
 pub loop-high-preserved-then-begins_behind : goal.loop-high-preserved-then-begins_behind
 loop-high-preserved-then-begins_behind g c =
     let within = c.loop-high.invariant.within in
     let apart = c.loop-high-test.true in
-    let part = c.item.result.now in
+    let middle = c.loop-high.low + (c.loop-high.high - c.loop-high.low) / 2 in
+    at-place c.args.parts.now middle (omega (arith, apart, within)) (λ part at is.
     narrowed-behind g.T.Part.rows c.args.parts.now (row_at c.args.spot) c.loop-high.low c.loop-high.high
-    (c.loop-high.low + (c.loop-high.high - c.loop-high.low) / 2) part part c.requires.rising c.loop-high.invariant
-    c.item.ensures
+    middle part part c.requires.rising c.loop-high.invariant is
     (g.met.T.Part.begins part
-    (subst g.T.Part.sound (sym c.item.ensures)
-    (each-at g.T.Part.sound c.args.parts.now (c.loop-high.low + (c.loop-high.high - c.loop-high.low) / 2) part c.requires.sound (omega (arith, apart, within)))))
+    (subst g.T.Part.sound (sym is) (each-at g.T.Part.sound c.args.parts.now middle part c.requires.sound (omega (arith, apart, within)))))
     (omega (arith, apart)) (omega (arith, apart))
-    (λ row first. sym (c.begins_behind.ensures row first) ∙ c.if-begins_behind.true)
+    (λ row first. sym (c.begins_behind.ensures part at row first) ∙ c.if-begins_behind.true))
 
 pub loop-high-preserved : goal.loop-high-preserved
 loop-high-preserved g c =
     let within = c.loop-high.invariant.within in
     let apart = c.loop-high-test.true in
-    let part = c.item.result.now in
+    let middle = c.loop-high.low + (c.loop-high.high - c.loop-high.low) / 2 in
+    at-place c.args.parts.now middle (omega (arith, apart, within)) (λ part at is.
     narrowed-before g.T.Part.rows c.args.parts.now (row_at c.args.spot) c.loop-high.low c.loop-high.high
-    (c.loop-high.low + (c.loop-high.high - c.loop-high.low) / 2) part part c.requires.rising c.loop-high.invariant
-    c.item.ensures
+    middle part part c.requires.rising c.loop-high.invariant is
     (g.met.T.Part.begins part
-    (subst g.T.Part.sound (sym c.item.ensures)
-    (each-at g.T.Part.sound c.args.parts.now (c.loop-high.low + (c.loop-high.high - c.loop-high.low) / 2) part c.requires.sound (omega (arith, apart, within)))))
+    (subst g.T.Part.sound (sym is) (each-at g.T.Part.sound c.args.parts.now middle part c.requires.sound (omega (arith, apart, within)))))
     (omega (arith, apart))
-    (λ row first. sym (c.begins_behind.ensures row first) ∙ c.if-begins_behind.false)
+    (λ row first. sym (c.begins_behind.ensures part at row first) ∙ c.if-begins_behind.false))
 
 pub returns : goal.returns
 returns g c =

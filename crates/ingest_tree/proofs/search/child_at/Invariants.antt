@@ -1,6 +1,6 @@
 use Rattle.std.proofs.Common.{◌-◌}
 use Rattle.ingest_tree.specs.Rows.{row_at}
-use Rattle.ingest_tree.proofs.PartLemmas.{IsWithin}
+use Rattle.ingest_tree.specs.Parts.{IsWithin}
 use Rattle.ingest_tree.proofs.search.child_at.Given as goal
 
 abbrev pub invariant-loop-high : goal.invariant-loop-high

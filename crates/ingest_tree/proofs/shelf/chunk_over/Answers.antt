@@ -1,9 +1,15 @@
-use Rattle.std.proofs.Common.{[], ◌<◌, ◌%◌, length, sym, ◌∙◌, subst}
+use Rattle.std.proofs.Common.{[], ◌<◌, ◌%◌, length, sym, ◌∙◌, subst, arith}
 use Rattle.ingest_tree.proofs.ChunkLemmas.{place-in}
 use Rattle.ingest_tree.proofs.shelf.chunk_over.Goals as goal
 
 pub bounds-chunks-at : goal.bounds-chunks-at
 bounds-chunks-at g c = (place-in c.args.chunks.now c.args.at [] c.requires.chunks c.requires.within).0
+
+pub offset_bounds-chunks-at : goal.offset_bounds-chunks-at
+offset_bounds-chunks-at g c =
+    let inside = (place-in c.args.chunks.now c.args.at [] c.requires.chunks c.requires.within).0 in
+    let bound = c.well_formed.0.1 in
+    omega (arith, inside, bound)
 
 pub returns-clause-place : goal.returns-clause-place
 returns-clause-place g c = (place-in c.args.chunks.now c.args.at c.parts.result.now c.requires.chunks c.requires.within).0

@@ -1,4 +1,4 @@
-use Rattle.std.proofs.Common.{◌≡◌, ◌+◌, ◌-◌, ◌++◌, ◌∷◌, [], length, suc, take, drop, get_or, ap, sym, ◌∙◌, arith, append_assoc}
+use Rattle.std.proofs.Common.{◌≡◌, ◌+◌, ◌-◌, ◌++◌, ◌∷◌, [], suc, take, drop, get_or, ap, sym, ◌∙◌, arith, append_assoc}
 use Rattle.ingest_tree.proofs.ChunkLemmas.{range-next}
 use Rattle.ingest_tree.proofs.builder.Builder.put_range.Goals as goal
 

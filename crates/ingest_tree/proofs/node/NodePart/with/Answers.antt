@@ -1,13 +1,13 @@
 use Rattle.std.specs.List.{AllByRecursion}
 use Rattle.ingest_tree.specs.laws.Filling.{stand-sound}
-use Rattle.std.proofs.Common.{◌≡◌, ◌+◌, ◌++◌, ◌∷◌, [], None, Some, suc, take, drop, length, ap, sym, ◌∙◌, subst, refl, arith, append_assoc, append-nil}
+use Rattle.std.proofs.Common.{◌++◌, ◌∷◌, [], None, Some, suc, take, drop, length, ap, sym, ◌∙◌, subst, refl, arith, append_assoc, append-nil}
 use Rattle.std.specs.List.{flat_map}
 use Rattle.std.specs.List.Sorted.{IsStrictlySortedBy}
 use Rattle.std.proofs.lemmas.Result.{IfOk-weaker}
 use Rattle.sorted_lists.specs.Places.{with_one}
 use Rattle.ingest_tree.specs.declared.store_row.StoreRow.{StoreRow}
 use Rattle.ingest_tree.specs.Rows.{store_row_cmp, row_at}
-use Rattle.ingest_tree.specs.Parts.{parts_of, Stand, Grows, IsFilledNode, IsSoundNode, IsChild}
+use Rattle.ingest_tree.specs.Parts.{parts_of, Grows, IsFilledNode, IsSoundNode, IsChild}
 use Rattle.ingest_tree.proofs.ChunkLemmas.{length-put}
 use Rattle.ingest_tree.proofs.PartLemmas.{rising-part, with-grown, child-alike}
 use Rattle.ingest_tree.proofs.GrowthLemmas.{finished-rows, node-grows}

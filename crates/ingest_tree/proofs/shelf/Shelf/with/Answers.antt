@@ -1,4 +1,4 @@
-use Rattle.std.proofs.Common.{◌≡◌, ◌<◌, ◌/◌, ◌%◌, ◌∷◌, ◌++◌, List, length, get_or, take, drop, suc, ap, sym, ◌∙◌, subst, arith}
+use Rattle.std.proofs.Common.{◌≡◌, ◌<◌, ◌/◌, ◌%◌, ◌∷◌, ◌++◌, length, get_or, take, drop, suc, ap, sym, ◌∙◌, subst, arith}
 use Rattle.std.specs.Arc.{arc_value}
 use Rattle.ingest_tree.specs.Chunks.{AreChunks, joined}
 use Rattle.ingest_tree.proofs.ChunkLemmas.{joined-put, chunks-put, length-put, chunks-cost}
