@@ -25,7 +25,7 @@ keys_long (e ∷ es) =
     let one : length (key_text e) ≡ suc (suc (suc (suc (suc (suc (suc (suc (suc (suc (suc (length (e.key ++ place_text e.value)))))))))))) = refl in
     omega (arith, keys_long es, length-append (key_text e) (keys_text es), one)
 
-page_long : (page : List KeyEntry) → FitsPage page → length (page_text page) ≡ page_size
+pub page_long : (page : List KeyEntry) → FitsPage page → length (page_text page) ≡ page_size
 page_long page fits =
     omega (arith, fits, length-append (page_used page) (replicate (page_size - length (page_used page)) 0), length-replicate {A = ℕ} (page_size - length (page_used page)) 0)
 

@@ -1,2 +1,9 @@
 pub mod Entries
 pub mod Building
+pub mod Reading
+pub mod Opened
+pub mod Searching
+pub mod Form
+pub mod Placing
+pub mod Walking
+pub mod laws

@@ -2,3 +2,4 @@ pub mod TextLemmas
 pub mod ReadingLoop
 pub mod OpeningLemmas
 pub mod FindingLoop
+mod PlaceLemmas

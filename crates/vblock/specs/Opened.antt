@@ -1,8 +1,7 @@
 -- What an opened block of values holds.
-use Rattle.std.specs.Prelude.{◌≡◌, ℕ, ◌≤◌, List, [], length, Option, Some, None, Result, Ok, Err}
+use Rattle.std.specs.Prelude.{◌≡◌, ℕ, ◌≤◌, List, [], length, Option, None, Result, Ok, Err}
 use Rattle.hse_fields.specs.BlockText.{header_size, value_from}
 use Rattle.hse_fields.specs.BlockReading.{body_of, values_of}
-use denote.Ref.{Bor}
 
 -- what was read, or nothing
 abbrev pub read_of : Result (List (List ℕ) × List ℕ) ℕ → List (List ℕ)
@@ -18,11 +17,6 @@ pub record IsOpened (used count : ℕ) (bytes : List ℕ) : Type 0 where
   pub header : header_size ≤ used
   pub within : used ≤ length bytes
   pub read : values_of count (body_of used bytes) ≡ Ok (values_in used count bytes, [])
-
--- bytes that are lent
-abbrev pub lent : Option (Bor (List ℕ)) → Option (List ℕ)
-lent (Some bytes) = Some bytes.now
-lent None = None
 
 -- the value that begins at an offset, of values that were read from start on
 abbrev pub found_in : ℕ → ℕ → ℕ → Result (List (List ℕ) × List ℕ) ℕ → Option (List ℕ)

@@ -32,6 +32,15 @@ impl ValueBlockBuilder {
         })
     }
 
+    /// How many bytes of the block are left.
+    pub fn room(&self) -> u64
+        requires { (slot : ℕ) × (values : List (List ℕ)) × Builds slot values self.now }
+        ensures { (slot : ℕ) (values : List (List ℕ)) → Builds slot values self.now
+            → result ≡ slot - (header_size + length (values_text values)) }
+    {
+        self.slot - self.bytes.len() as u64
+    }
+
     /// Adds a value, and answers where its entry begins. `BlockFull` comes exactly where the entry,
     /// four bytes and the value, is longer than what is left of the block; the builder is then
     /// unchanged.

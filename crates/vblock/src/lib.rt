@@ -3,6 +3,7 @@
 
 mod building;
 mod opening;
+mod places;
 mod reading;
 mod value_block;
 

@@ -12,7 +12,8 @@ use hse_fields::{BlockHeader, Damaged, VALUE_KIND, block_body, read_plain_header
 /// stay where they are. `Damaged` has the place of the first field that the grammar refuses: the
 /// kind, a byte that is not zero, used bytes fewer than the header's or more than there are, a
 /// number of entries that is 0 or of pages that is not, or the first entry that passes the used
-/// bytes; bytes left over are refused at the used bytes. What stands behind these is not read.
+/// bytes or whose length is above 1,048,576, the most bytes of a value; bytes left over are refused
+/// at the used bytes. What stands behind these is not read.
 #[tactic(auto, unfolding(hse_fields::specs::BlockReading::value_block_of))]
 pub fn open_value_block(bytes: Vec<u8>) -> Result<ValueBlock, Damaged>
     ensures { Tells (λ block. block) result (value_block_of bytes.items) }

@@ -2,17 +2,23 @@
 ghost use Rattle.std.specs.Prelude.{◌≡◌, ◌≤◌, length, IfErr};
 ghost use Rattle.hse_fields.specs.BlockGiven.{Gives};
 ghost use Rattle.hse_fields.specs.BlockReading.{behind_of, values_of};
-ghost use Rattle.hse_fields.specs.LogLimits.{longest_value};
+ghost use Rattle.hse_fields.specs.LogLimits.{value_limit};
 ghost use Rattle.hse_fields.specs.LogReading.{sized_of};
 
-use hse_fields::{Left, split_bytes, split_u32};
+use hse_fields::{Left, VALUE_LIMIT, split_bytes, split_u32};
 
-/// A value behind its length, and the bytes behind it.
+/// A value behind its length, and the bytes behind it. A length above the limit of a value is refused
+/// at itself.
 #[tactic(auto, unfolding(hse_fields::specs::LogReading::sized_of, hse_fields::specs::LogReading::size_of))]
 pub(crate) fn read_value(bytes: &[u8]) -> Result<(&[u8], &[u8]), Left>
-    ensures { Gives (λ x. (x.0.now, x.1.now)) result (sized_of 4 0 longest_value bytes.now) }
+    ensures { Gives (λ x. (x.0.now, x.1.now)) result (sized_of 4 0 value_limit bytes.now) }
 {
     let (size, rest) = split_u32(bytes)?;
+    if size as u64 > VALUE_LIMIT {
+        return Err(Left {
+            left: bytes.len() as u64,
+        });
+    }
     Ok(split_bytes(rest, size as u64)?)
 }
 

@@ -2,7 +2,8 @@
 ghost use Rattle.std.specs.Prelude.{◌≡◌, ◌==◌, if◌then◌else◌, length, None, Some};
 ghost use Rattle.hse_fields.specs.BlockReading.{values_of};
 ghost use Rattle.hse_fields.specs.BlockText.{header_size, value_at};
-ghost use Rattle.vblock.specs.Opened.{found_in, lent, IsRead};
+ghost use Rattle.vblock.specs.Opened.{found_in, IsRead};
+ghost use Rattle.hse_fields.specs.BlockGiven.{lent};
 
 use crate::reading::read_value;
 use hse_fields::{HEADER_SIZE, block_body};
@@ -60,7 +61,7 @@ fn value_in(entries: &[u8], count: u32, offset: u64, len: u64) -> Option<&[u8]>
 }
 
 /// The value, if it has so many bytes.
-fn of_length(value: &[u8], len: u64) -> Option<&[u8]>
+pub(crate) fn of_length(value: &[u8], len: u64) -> Option<&[u8]>
     ensures { lent result ≡ (if length value.now == len then Some value.now else None) }
 {
     if value.len() as u64 == len {

@@ -1,6 +1,6 @@
 use Rattle.std.proofs.Common.{List, ℕ, arith}
 use Rattle.hse_fields.specs.BlockReading.{behind_of, values_of}
-use Rattle.hse_fields.specs.LogLimits.{longest_value}
+use Rattle.hse_fields.specs.LogLimits.{value_limit}
 use Rattle.hse_fields.specs.laws.Fields.{sized_length}
 use Rattle.vblock.proofs.ReadingLoop.{goes_on, stops, is_done, value_inside}
 use Rattle.vblock.proofs.reading.behind_values.Goals as goal
@@ -20,7 +20,7 @@ returns-clause-gives c =
 pub loop-preserved : goal.loop-preserved
 loop-preserved c =
     let first : List ℕ × List ℕ = (c.in-Ok.field-0-0.now, c.in-Ok.behind.now) in
-    let long = sized_length 4 0 longest_value c.loop.rest.now first c.in-Ok.ensures in
+    let long = sized_length 4 0 value_limit c.loop.rest.now first c.in-Ok.ensures in
     record {
       read = goes_on c.args.count c.loop.counter c.loop.rest.now first (behind_of (values_of c.args.count c.args.bytes.now)) c.loop-test.true c.in-Ok.ensures c.loop.invariant.read;
       shorter = omega (arith, long, c.loop.invariant.shorter);
