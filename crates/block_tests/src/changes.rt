@@ -14,7 +14,7 @@ enum Kind {
 use Kind::{Prefixes, Values};
 
 /// A block, a place in it, another byte there, and where the block is then damaged.
-static CHANGES: [(Kind, usize, u8, u64); 27] = [
+static CHANGES: [(Kind, usize, u8, u64); 29] = [
     (Values, 0, 0x4B, 0),
     (Values, 1, 1, 1),
     (Values, 2, 1, 2),
@@ -26,6 +26,8 @@ static CHANGES: [(Kind, usize, u8, u64); 27] = [
     (Values, 11, 1, 4),
     (Values, 11, 3, 25),
     (Values, 15, 1, 12),
+    (Values, 17, 0x0F, 20),
+    (Values, 17, 0x10, 16),
     (Values, 19, 6, 20),
     (Values, 24, 1, 25),
     (Prefixes, 0, 0x56, 0),

@@ -6,6 +6,10 @@ mod changes;
 #[cfg(test)]
 mod keys;
 #[cfg(test)]
+mod packing;
+#[cfg(test)]
 mod prefixes;
+#[cfg(test)]
+mod sets;
 #[cfg(test)]
 mod values;

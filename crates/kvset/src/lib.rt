@@ -1,0 +1,14 @@
+//! Sets of rows, opened from their blocks and searched.
+#![tactic(auto)]
+
+mod block;
+mod keys;
+mod kvset;
+mod meeting;
+mod opening;
+mod parts;
+mod reading;
+
+pub use block::{Block, SetFault};
+pub use kblock::ValuePlace;
+pub use kvset::{Kvset, open_set};

@@ -1,0 +1,69 @@
+-- What is read again of the blocks of a set.
+use Rattle.std.specs.Prelude.{◌≡◌, ℕ, ◌+◌, ◌^◌, ◌<◌, ◌≤◌, true, false, List, [], ◌∷◌, length, Option, Some, None}
+use Rattle.std.specs.List.{AllByRecursion, flat_map, slice_get}
+use Rattle.hse_fields.specs.declared.block.ValuePlace.{ValuePlace}
+use Rattle.hse_fields.specs.LogLimits.{value_limit}
+use Rattle.hse_fields.specs.BlockText.{KeyEntry, PrefixEntry, value_at}
+use Rattle.hse_fields.specs.BlockReading.{last_key}
+use Rattle.hse_fields.specs.BlockForm.{ArePrefixEntries, AreValues}
+use Rattle.kblock.specs.Form.{AreKeyPages, PlaceFits}
+use Rattle.hse_rows.specs.declared.row.Row.{Row}
+use Rattle.hse_rows.specs.rows.RowSets.{AreRows}
+use Rattle.set_build.specs.SetText.{Pushed, values_of, values_by_block, prefix_entries, prefix_blocks_of, key_entries, key_blocks_of}
+use Rattle.set_build.specs.Packs.{puts_in}
+
+-- a value that may be written to blocks of such a size
+abbrev pub MayWrite : ℕ → List ℕ → Type 0
+MayWrite slot_size value = (length value ≤ value_limit) × (20 + length value ≤ slot_size)
+
+-- the value at an offset of a block that may be there
+abbrev pub value_in_block : Option (List (List ℕ)) → ℕ → ℕ → Option (List ℕ)
+value_in_block None offset len = None
+value_in_block (Some values) offset len = value_at values offset len
+
+-- the value at a place, in the blocks of a set
+abbrev pub value_in_blocks : List (List (List ℕ)) → ValuePlace → Option (List ℕ)
+value_in_blocks blocks place = value_in_block (slice_get blocks place.block) place.offset place.len
+
+-- the last key of a block's pages, or else the one before them
+abbrev pub last_in_block : Option (List ℕ) → List (List KeyEntry) → Option (List ℕ)
+last_in_block last pages = last_key last (flat_map (λ (page : List KeyEntry). page) pages)
+
+-- the blocks of keys of a set, each behind the last key of the block before
+abbrev pub AreSetKeys : Option (List ℕ) → List (List (List KeyEntry)) → Type 0
+AreSetKeys last [] = Unit {0}
+AreSetKeys last (pages ∷ blocks) = AreKeyPages last pages × AreSetKeys (last_in_block last pages) blocks
+
+-- the last prefix of a block's entries, or else the one before them
+abbrev pub last_prefix : Option (List ℕ) → List PrefixEntry → Option (List ℕ)
+last_prefix last [] = last
+last_prefix last (entry ∷ entries) = last_prefix (Some entry.prefix) entries
+
+-- the blocks of prefix deletes of a set, each behind the last prefix of the block before
+abbrev pub AreSetPrefixes : Option (List ℕ) → List (List PrefixEntry) → Type 0
+AreSetPrefixes last [] = Unit {0}
+AreSetPrefixes last (entries ∷ blocks) = ArePrefixEntries last entries × AreSetPrefixes (last_prefix last entries) blocks
+
+-- ---- sets that may be written
+
+-- a place whose numbers have four bytes each
+abbrev pub CanBeSaid : ValuePlace → Type 0
+CanBeSaid place = PlaceFits (Some place)
+
+-- Rows in order whose numbers have eight bytes; their values, if they are written, are within the limits and in no more
+-- blocks than four bytes can number; and else each put has a place.
+pub record MayBeWritten (p : Pushed) : Type 0 where
+  pub large : 2 ^ 16 ≤ p.slot_size
+  pub small : p.slot_size ≤ 2 ^ 25
+  pub rows : AreRows p.rows
+  pub numbers : AllByRecursion (λ (row : Row). row.number < 2 ^ 64) p.rows
+  pub written : p.values ≡ true → AllByRecursion (MayWrite p.slot_size) (values_of p.rows)
+  pub few : length (values_by_block p) ≤ 2 ^ 32
+  pub placed : p.values ≡ false → length p.places ≡ length (puts_in p.rows)
+  pub places_said : p.values ≡ false → AllByRecursion CanBeSaid p.places
+
+-- The blocks of a set have the form of blocks, so that each is read as it was packed.
+pub record AreFormed (p : Pushed) : Type 0 where
+  pub prefixes : AreSetPrefixes None (prefix_blocks_of p.slot_size (prefix_entries p.rows))
+  pub keys : AreSetKeys None (key_blocks_of p.slot_size (key_entries p))
+  pub values : AllByRecursion AreValues (values_by_block p)
