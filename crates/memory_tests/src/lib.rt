@@ -2,12 +2,18 @@
 #![tactic(auto)]
 
 #[cfg(test)]
+mod counted;
+#[cfg(test)]
 mod ingest_trees;
 #[cfg(test)]
 mod locks;
 #[cfg(test)]
 mod merges;
 #[cfg(test)]
+mod reading;
+#[cfg(test)]
 mod sets;
 #[cfg(test)]
 mod trees;
+#[cfg(test)]
+mod views;

@@ -4,7 +4,7 @@ ghost use Rattle.cn_tree.specs.Tree.{in_front};
 
 use cn_tree::{NodePath, Tree, TreeFault};
 use hse_io::NoMemory;
-use hse_rows::{Change, Key, Prefix, Row, RowRef, RowSet, StoreId, Value};
+use hse_rows::{Change, Key, Prefix, Row, RowRef, RowSet, Shared, StoreId, Value};
 use ingest_tree::{IngestTree, StoreRows};
 use merge::Merged;
 use std::alloc::Global;
@@ -34,7 +34,7 @@ fn number_of(row: Option<RowRef<'_>>) -> Option<u64> {
 }
 
 /// A tree with one set, at the root.
-fn tree_of(alloc: Global, set: StoreRows) -> Result<Tree<StoreRows>, NoMemory>
+pub(crate) fn tree_of<R: Shared>(alloc: Global, set: R) -> Result<Tree<R>, NoMemory>
     ensures { IfOk result (λ tree. tree
         ≡ record { prefix_length = 0; nodes = in_front [] [] set }) }
 {

@@ -1,10 +1,11 @@
 -- The places of positions.
-use Rattle.std.proofs.Common.{◌≡◌, ℕ, zero, suc, ◌<◌, ◌==◌, Bool, true, false, true≢false, not, ◌||◌, List, [], ◌∷◌, length, get_or, set, take, map, Option, Some, None, refl, sym, ap, ◌∙◌, arith}
+use Rattle.std.proofs.Common.{◌≡◌, ℕ, zero, suc, ◌<◌, ◌==◌, Bool, true, false, true≢false, not, ◌||◌, cond, List, [], ◌∷◌, length, get_or, set, take, map, Option, Some, None, refl, sym, ap, ◌∙◌, arith}
 use Rattle.std.specs.Prelude.{slice_get}
 use Rattle.std.specs.declared.cmp.Ordering.{Ordering}
 use Rattle.std.specs.declared.cmp.Ordering.TheVariants.{Less, Equal, Greater}
 use Rattle.std.specs.Ordering.{nat_cmp, is_lt, is_gt, is_ge, ordering_reverse}
 use Rattle.std.specs.Cmp.Lexicographic.{slice_cmp}
+use Rattle.std.specs.List.{filter}
 use Rattle.std.specs.List.Sorted.{IsStrictlySortedBy}
 use Rattle.hse_rows.specs.declared.row.Row.{Row}
 use Rattle.hse_rows.specs.writes.Change.{target}
@@ -79,6 +80,17 @@ pub place-front : (rows : List Row) → place_of [] rows ≡ place_by forward fr
 place-front rows =
     ap length (filter-alike (is_before []) (stands_before forward front)
     (λ row. ap (λ b. (rank row.change == 0) || b) (none-below (target row.change))) rows)
+
+or-true : (b : Bool) → b || true ≡ true
+or-true true = refl
+or-true false = refl
+
+pub place-end : (rows : List Row) → length rows ≡ place_by backward front rows
+place-end [] = refl
+place-end (row ∷ rows) =
+    ap suc (place-end rows)
+    ∙ ap (λ (b : Bool). length (cond b (row ∷ filter (stands_before backward front) rows) (filter (stands_before backward front) rows)))
+    (sym (or-true (rank row.change == 0)))
 
 -- ---- one source more
 

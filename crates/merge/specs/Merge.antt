@@ -7,6 +7,7 @@ use Rattle.row_laws.specs.Sources.{all_rows}
 use Rattle.row_laws.specs.Merging.{next_by}
 use Rattle.row_laws.specs.Next.{OwnFalls, lasting_at}
 use Rattle.merge.specs.First.{IsFirstIn}
+use Rattle.merge.specs.Places.{all_left}
 use Rattle.merge.specs.Steps.{AreAt, GoesOn, IsRowAt}
 
 -- the sources' rows, nearest source first, the direction, the place in each source, and where the row that was given last
@@ -37,6 +38,10 @@ position_after position (Some row) = past_key (target row.change)
 abbrev pub last_after : Option (ℕ × ℕ) → Option (ℕ × ℕ) → Option (ℕ × ℕ)
 last_after old None = old
 last_after old (Some place) = Some place
+
+-- how many rows are ahead
+abbrev pub rows_ahead : MergeState → ℕ
+rows_ahead m = all_left m.direction m.sources m.places
 
 -- After a row was given the merge goes on behind it, and where there was none it stays. The last place is the row's.
 pub record Goes (old : MergeState) (found : Option Row) (new : MergeState) : Type 0 where

@@ -1,21 +1,22 @@
 //! A merge of sources.
-ghost use Rattle.std.specs.Prelude.{◌≡◌, ℕ, List, map, Option, None, IfOk, IfSome};
+ghost use Rattle.std.specs.Prelude.{◌≡◌, ◌<◌, ℕ, List, map, Option, None, IfOk, IfSome};
 ghost use Rattle.std.specs.List.{filter};
 ghost use Rattle.hse_rows.specs.declared.row.Row.{Row as a_row};
+ghost use Rattle.hse_rows.specs.writes.Change.{FitsLimits};
 ghost use Rattle.hse_rows.specs.rows.Newest.{newest};
 ghost use Rattle.hse_rows.specs.rows.RowSets.{row_of, row_by};
-ghost use Rattle.hse_rows.specs.script.Cursor.{forward, front};
+ghost use Rattle.hse_rows.specs.script.Cursor.{forward, backward, front};
 ghost use Rattle.row_laws.specs.Next.{OwnFalls, position_of};
 ghost use Rattle.row_laws.specs.Sources.{all_rows};
 ghost use Rattle.prefix_delete.specs.Prefixes.{rows_of};
 ghost use Rattle.merge.specs.Places.{direction_of, places_by};
 ghost use Rattle.merge.specs.Steps.{IsRowAt};
 ghost use Rattle.merge.specs.Deletes.{all_deletes, is_delete};
-ghost use Rattle.merge.specs.Merge.{StandsAt, IsNext, Goes, last_after};
+ghost use Rattle.merge.specs.Merge.{StandsAt, IsNext, Goes, last_after, rows_ahead};
 
 use crate::covers::are_known;
 use crate::prefixes::prefixes;
-use crate::seeks::{first_places, seek};
+use crate::seeks::{first_places, seek, seek_end};
 use crate::steps::step;
 use hse_io::NoMemory;
 use hse_rows::{RowRef, RowSet};
@@ -96,6 +97,19 @@ impl<R: RowSet + Drop> Merged<R> {
         self.reverse = reverse;
     }
 
+    /// Goes behind all keys, to go down from there. It takes no memory.
+    pub fn seek_end(&mut self)
+        ensures { self.new ≡ record {
+          sources = self.old.sources;
+          direction = backward;
+          places = places_by backward front self.old.sources;
+          last = self.old.last;
+        } }
+    {
+        seek_end(&self.sources, &mut self.places);
+        self.reverse = true;
+    }
+
     /// The source, counted from 0, and the place in it of the row that `next` gave last, and none before
     /// the first. It takes no memory.
     pub fn last_place(&self) -> Option<(u64, u64)>
@@ -129,22 +143,25 @@ impl<R: RowSet + Drop> Merged<R> {
         }
     }
 
-    /// The row at a place of a source.
-    fn row(&self, source: u64, at: u64) -> RowRef<'_>
+    /// The row at a place of a source, both counted from 0. It takes no memory.
+    pub fn row(&self, source: u64, at: u64) -> RowRef<'_>
         requires { (row : a_row) × IsRowAt self.now.sources source at row }
-        ensures { IsRowAt self.now.sources source at (row_of result) }
+        ensures row { IsRowAt self.now.sources source at (row_of result) }
+        ensures within { FitsLimits (row_of result).change }
     {
         row_in(&self.sources, source, at)
     }
 
-    /// A step to the next merged row, as its source and its place there.
-    fn advance(&mut self) -> Option<(u64, u64)>
+    /// A step to the next merged row as `next`, which gives its source and its place there. Each step
+    /// to a row leaves fewer rows ahead.
+    pub fn advance(&mut self) -> Option<(u64, u64)>
         ensures there { IfSome result (λ place.
             (row : a_row) × IsRowAt self.new.sources place.0 place.1 row) }
         ensures row { (found : Option a_row) → StandsAt self.new.sources result found
             → IsNext self.old found }
         ensures goes { (found : Option a_row) → StandsAt self.new.sources result found
             → Goes self.old found self.new }
+        ensures fewer { IfSome result (λ _. rows_ahead self.new < rows_ahead self.old) }
     {
         let found = step(&self.sources, &mut self.places, self.reverse);
         are_known(&self.sources);
@@ -167,7 +184,10 @@ fn later(old: Option<(u64, u64)>, found: Option<(u64, u64)>) -> Option<(u64, u64
 /// The row at a place of a source.
 fn row_in<'a, R: RowSet>(sources: &'a [R], source: u64, at: u64) -> RowRef<'a>
     requires { (row : a_row) × IsRowAt (map R.rows sources.now) source at row }
-    ensures { IsRowAt (map R.rows sources.now) source at (row_of result) }
+    ensures row { IsRowAt (map R.rows sources.now) source at (row_of result) }
+    ensures within { FitsLimits (row_of result).change }
 {
-    sources[source as usize].row(at)
+    let rows = &sources[source as usize];
+    rows.known();
+    rows.row(at)
 }

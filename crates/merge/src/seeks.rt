@@ -1,6 +1,6 @@
 //! The places of a position.
 ghost use Rattle.std.specs.Prelude.{◌≡◌, [], length as number_of, map, IfOk};
-ghost use Rattle.hse_rows.specs.script.Cursor.{forward, front};
+ghost use Rattle.hse_rows.specs.script.Cursor.{forward, backward, front};
 ghost use Rattle.row_laws.specs.Next.{position_of};
 ghost use Rattle.merge.specs.Places.{direction_of, place_by, places_by};
 
@@ -59,5 +59,22 @@ pub(crate) fn seek<R: RowSet>(
 {
     for at in 0..sources.len() {
         places[at] = place_to(&sources[at], edge, past, reverse);
+    }
+}
+
+/// The place behind all keys of a source.
+fn place_of_end<R: RowSet>(source: &R) -> u64
+    ensures { result ≡ place_by backward front (R.rows source.now) }
+{
+    source.len()
+}
+
+/// The place behind all keys in each source.
+pub(crate) fn seek_end<R: RowSet>(sources: &[R], places: &mut [u64])
+    requires { number_of sources.now ≡ number_of places.old }
+    ensures { places.new ≡ places_by backward front (map R.rows sources.now) }
+{
+    for at in 0..sources.len() {
+        places[at] = place_of_end(&sources[at]);
     }
 }

@@ -1,11 +1,11 @@
 //! A step of a merge.
-ghost use Rattle.std.specs.Prelude.{◌≡◌, ◌⊎◌, ℕ, List, length as number_of, map, Some, None, IfSome};
+ghost use Rattle.std.specs.Prelude.{◌≡◌, ◌<◌, ◌⊎◌, ℕ, List, length as number_of, map, Some, None, IfSome};
 ghost use Rattle.std.specs.Option.{option_map};
 ghost use Rattle.std.specs.List.{AllByRecursion};
 ghost use Rattle.hse_rows.specs.rows.RowSets.{AreRows, row_of, row_by};
 ghost use Rattle.hse_rows.specs.script.Cursor.{Position};
 ghost use Rattle.row_laws.specs.Next.{OwnFalls};
-ghost use Rattle.merge.specs.Places.{direction_of, all_passed, sooner, soonest, IsHead};
+ghost use Rattle.merge.specs.Places.{direction_of, all_passed, all_left, sooner, soonest, IsHead};
 ghost use Rattle.merge.specs.Steps.{GoesOn, AreAt, Given};
 
 use crate::covers::{are_known, cover, is_lasting};
@@ -81,6 +81,9 @@ pub(crate) fn step<R: RowSet>(
     ensures given { (position : Position)
         → GoesOn (direction_of reverse) position (map R.rows sources.now) places.old
         → Given (direction_of reverse) position (map R.rows sources.now) result places.new }
+    ensures fewer { IfSome result (λ _.
+        all_left (direction_of reverse) (map R.rows sources.now) places.new
+        < all_left (direction_of reverse) (map R.rows sources.now) places.old) }
 {
     are_known(sources);
     while let Some((source, row)) = soonest_of(sources, places, reverse) {

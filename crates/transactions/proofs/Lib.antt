@@ -1,4 +1,3 @@
-pub mod NewerLemmas
 pub mod OwnLemmas
 pub mod ReadLemmas
 pub mod StandLemmas

@@ -1,48 +1,35 @@
 -- Own rows with one more mean the writes with one more.
-use Rattle.std.proofs.Common.{◌≡◌, ℕ, ◌+◌, ◌<◌, ◌≤◌, ◌==◌, Bool, true, false, true≢false, cond, not, ◌||◌, ◌&&◌, List, [], ◌∷◌, ◌++◌, length, map, take, Option, Some, None, refl, sym, ap, ◌∙◌, subst, arith}
-use Rattle.std.proofs.lemmas.Bool.{eqb-true, eq-eqb}
+use Rattle.std.proofs.Common.{◌≡◌, ℕ, ◌<◌, ◌≤◌, ◌==◌, true, false, true≢false, cond, ◌||◌, ◌&&◌, List, [], ◌∷◌, ◌++◌, length, map, None, refl, sym, ap, ◌∙◌, subst, arith}
+use Rattle.std.proofs.lemmas.Bool.{eq-eqb}
+use Rattle.std.proofs.lemmas.Bool.Decides.{nat_tests}
 use Rattle.std.proofs.lemmas.List.{take_all}
-use Rattle.std.specs.Ordering.{nat_cmp, on, then_cmp, eq_by_cmp}
-use Rattle.std.specs.List.{AllByRecursion, filter, list_any}
+use Rattle.std.specs.Ordering.{nat_cmp, is_lt, ordering_then}
+use Rattle.std.specs.List.{AllByRecursion, filter}
 use Rattle.std.specs.List.Sorted.{IsStrictlySortedBy}
-use Rattle.std.specs.Cmp.{IsTotalOrder, then_total, on_total, nat_cmp_total}
-use Rattle.std.specs.Cmp.Lexicographic.{nat_list_cmp_total, nat_list_eq_equiv}
+use Rattle.std.specs.Cmp.Lexicographic.{nat_list_eq_equiv}
 use Rattle.hse_rows.specs.declared.change.Change.{Change}
 use Rattle.hse_rows.specs.declared.change.Change.TheVariants.{Put, Del, PDel}
 use Rattle.hse_rows.specs.declared.row.Row.{Row}
 use Rattle.hse_rows.specs.declared.store.Mode.TheVariants.{Plain}
 use Rattle.hse_rows.specs.declared.write.Write.{Write}
-use Rattle.hse_rows.specs.writes.Change.{target, covers}
+use Rattle.hse_rows.specs.writes.Change.{covers}
 use Rattle.hse_rows.specs.writes.NormalForm.{rank, same, normal_form}
 use Rattle.hse_rows.specs.writes.Overlap.{meets, overlaps, overlaps_some}
-use Rattle.hse_rows.specs.rows.Newest.{row_cmp}
-use Rattle.hse_rows.specs.rows.Meaning.{contents_of, with_row}
-use Rattle.hse_rows.specs.states.State.{Contents, Store, State, changed, contents_after, contents_after_all}
+use Rattle.hse_rows.specs.rows.Meaning.{contents_of}
+use Rattle.hse_rows.specs.states.State.{Contents, Store, State, contents_after, contents_after_all}
 use Rattle.hse_rows.specs.laws.Holding.{applied_all-stores}
 use Rattle.hse_rows.specs.laws.Laws.{NormalFormsDoTheSame, NormalFormsOverlapTheSame}
-use Rattle.row_laws.specs.Laws.{KeysHoldNewestRows}
+use Rattle.row_laws.specs.Step.{AppliesLast}
 use Rattle.ingest_tree.specs.declared.store_row.StoreRow.{StoreRow}
-use Rattle.ingest_tree.specs.Rows.{store_row_cmp, store_row, row_numbered, rows_in, rows_with, AreRising}
-use Rattle.ingest_tree.specs.Stores.{StoresTakeTheirRows, OthersKeepTheirRows}
-use Rattle.sorted_lists.specs.laws.Lists.{each-weaker, each-filter}
-use Rattle.sorted_lists.specs.laws.Orders.{rising-replaced, each-placed}
+use Rattle.ingest_tree.specs.Rows.{store_row, row_numbered, rows_in, rows_with, AreRising}
+use Rattle.sorted_lists.specs.laws.Lists.{each-weaker}
+use Rattle.sorted_lists.specs.laws.Orders.{rising-replaced}
 use Rattle.view.specs.declared.get_fault.TxnState.TheVariants.{Active}
 use Rattle.view.specs.Views.{ViewState}
-use Rattle.transactions.specs.Txns.{TxnKept, StagedState, own_rows, with_staged, MeansWrites, HasOwn, IsTxn}
+use Rattle.view.specs.Laws.{LayersTakeRows}
+use Rattle.view.specs.Layers.{store_row_order, each-with}
+use Rattle.transactions.specs.Txns.{TxnKept, StagedState, own_rows, with_staged, MeansWrites, IsTxn}
 use Rattle.transactions.specs.Stages.{IsStage}
-use Rattle.transactions.proofs.NewerLemmas.{contents-more}
-
-store_row_order : IsTotalOrder store_row_cmp
-store_row_order =
-    then_total (on_total (λ (row : StoreRow). row.store.0) nat_cmp_total)
-    (on_total (λ (row : StoreRow). row.row)
-    (then_total (on_total (λ (row : Row). rank row.change) nat_cmp_total)
-    (on_total (λ (row : Row). target row.change) nat_list_cmp_total)))
-
-each-with : (P : StoreRow → Type 0) (rows : List StoreRow) (row : StoreRow) → AllByRecursion P rows → P row → AllByRecursion P (rows_with rows row)
-each-with P rows row all here =
-    each-placed store_row_order P (filter (λ other. not (eq_by_cmp store_row_cmp row other)) rows) row
-    (each-filter P (λ other. not (eq_by_cmp store_row_cmp row other)) rows all) here
 
 -- ---- writes
 
@@ -88,36 +75,28 @@ some-normal law write writes none =
 
 -- ---- one more
 
-each-row_in : (n : ℕ) (id : ℕ) (rows : List StoreRow) → AllByRecursion (λ (row : StoreRow). row.row.number < n) rows
-    → AllByRecursion (λ (row : Row). row.number < n) (rows_in id rows)
-each-row_in n id [] all = tt
-each-row_in n id (row ∷ rows) all =
-    elim (row.store.0 == id)
-    as (λ b. AllByRecursion (λ (r : Row). r.number < n) (map (λ (r : StoreRow). r.row) (cond b (row ∷ filter (λ (r : StoreRow). r.store.0 == id) rows) (filter (λ (r : StoreRow). r.store.0 == id) rows))))
-    [ true ↦ (all.0, each-row_in n id rows all.1) | false ↦ each-row_in n id rows all.1 ]
+-- rows with lesser numbers apply before
+older : (m n a b : ℕ) → n < m → is_lt (ordering_then (nat_cmp m n) (nat_cmp a b)) ≡ false
+older m n a b less = grind (arith, nat_tests, less)
 
-module _ (keys : KeysHoldNewestRows) (same_writes : NormalFormsDoTheSame) (take_rows : StoresTakeTheirRows) (keep_rows : OthersKeepTheirRows) where
+all-older : (last : ℕ) (change : Change) (id : ℕ) (rows : List StoreRow) → AllByRecursion (λ (row : StoreRow). row.row.number < last) rows
+    → AppliesLast (rows_in id rows) (row_numbered last change)
+all-older last change id [] all = tt
+all-older last change id (row ∷ rows) all =
+    elim (row.store.0 == id)
+    as (λ b. AppliesLast (map (λ (r : StoreRow). r.row) (cond b (row ∷ filter (λ (r : StoreRow). r.store.0 == id) rows) (filter (λ (r : StoreRow). r.store.0 == id) rows))) (row_numbered last change))
+    [ true ↦ (older last row.row.number (rank change) (rank row.row.change) all.0, all-older last change id rows all.1) | false ↦ all-older last change id rows all.1 ]
+
+module _ (take : LayersTakeRows) (same_writes : NormalFormsDoTheSame) where
   means-more : (number last : ℕ) (own : List StoreRow) (writes : List Write) (write : Write)
-      → AreRising own → number < last → AllByRecursion (λ (row : StoreRow). row.row.number < last) own → MeansWrites number own writes
+      → number < last → AllByRecursion (λ (row : StoreRow). row.row.number < last) own → MeansWrites number own writes
       → MeansWrites number (rows_with own (store_row write.store (row_numbered last write.change))) (normal_form (writes ++ write ∷ []))
-  means-more number last own writes write rising high below means id rows low =
-      by (write.store.0 == id) refl
+  means-more number last own writes write high below means id rows low =
+      take own write last id rows (all-older last write.change id own below)
+      (each-weaker (λ (row : Row) up. omega (arith, up, high)) rows low)
+      ∙ ap (λ contents. contents_after id contents write) (means id rows low)
       ∙ sym (after-last id (contents_of rows) writes write)
       ∙ sym (after-normal same_writes id (contents_of rows) (writes ++ write ∷ []))
-    where
-      by : (b : Bool) → (write.store.0 == id) ≡ b
-          → contents_of (rows_in id (rows_with own (store_row write.store (row_numbered last write.change))) ++ rows)
-          ≡ cond b (changed (contents_after_all id (contents_of rows) writes) write.change) (contents_after_all id (contents_of rows) writes)
-      by true is =
-          let here = eqb-true write.store.0 id is in
-          ap (λ (l : List Row). contents_of (l ++ rows))
-          (subst (λ n. rows_in n (rows_with own (store_row write.store (row_numbered last write.change))) ≡ with_row (rows_in n own) (row_numbered last write.change)) here
-          (take_rows own write.store (row_numbered last write.change) rising))
-          ∙ contents-more keys (rows_in id own) rows (row_numbered last write.change) (each-row_in last id own below)
-          (each-weaker (λ (row : Row) up. omega (arith, up, high)) rows low)
-          ∙ ap (λ contents. changed contents write.change) (means id rows low)
-      by false is =
-          ap (λ (l : List Row). contents_of (l ++ rows)) (keep_rows own write.store (row_numbered last write.change) id is) ∙ means id rows low
 
   -- what was staged from a transaction may be kept
   pub kept-stands : {R : Type 0} (txn : TxnKept R) (write : Write) (staged : StagedState) → NormalFormsOverlapTheSame
@@ -137,7 +116,7 @@ module _ (keys : KeysHoldNewestRows) (same_writes : NormalFormsDoTheSame) (take_
             (each-weaker (λ (r : StoreRow) up. omega (arith, up, last)) (own_rows txn.own) is.within) (omega arith));
         means = subst (λ own. MeansWrites txn.view.number own staged.writes) (sym stage.own)
             (subst (MeansWrites txn.view.number (rows_with (own_rows txn.own) row)) (sym stage.writes)
-            (means-more txn.view.number staged.last (own_rows txn.own) txn.writes write is.rising high
+            (means-more txn.view.number staged.last (own_rows txn.own) txn.writes write high
             (each-weaker (λ (r : StoreRow) up. omega (arith, up, last)) (own_rows txn.own) is.within) is.means));
       }
 

@@ -1,12 +1,12 @@
 -- What a read finds in the state that a transaction reads.
-use Rattle.std.proofs.Common.{◌≡◌, ℕ, ◌<◌, ◌≤◌, Bool, true, false, cond, List, [], ◌∷◌, ◌++◌, map, Option, Some, None, refl, sym, ap, ◌∙◌, subst, append_assoc}
+use Rattle.std.proofs.Common.{◌≡◌, ℕ, ◌<◌, true, false, cond, List, [], ◌∷◌, ◌++◌, map, Option, Some, None, refl, ap, ◌∙◌, append_assoc}
 use Rattle.std.specs.List.{AllByRecursion, find}
 use Rattle.std.specs.Option.{option_map}
 use Rattle.hse_rows.specs.declared.row.Row.{Row}
 use Rattle.hse_rows.specs.declared.write.Write.{Write}
 use Rattle.hse_rows.specs.writes.NormalForm.{same}
 use Rattle.hse_rows.specs.rows.Meaning.{contents_of}
-use Rattle.hse_rows.specs.states.State.{Store, State, store_named, contents_after_all}
+use Rattle.hse_rows.specs.states.State.{Store, store_named, contents_after_all}
 use Rattle.hse_rows.specs.laws.Holding.{applied_all-stores, written_all}
 use Rattle.row_laws.specs.Sources.{all_rows}
 use Rattle.ingest_tree.specs.declared.store_row.StoreRow.{StoreRow}
@@ -16,7 +16,7 @@ use Rattle.view.specs.Laws.{StoresAreNotNewer, NewerLayersGoOver}
 use Rattle.view.specs.Routed.{tree_rows}
 use Rattle.view.specs.Views.{ViewState, layers_with}
 use Rattle.view.specs.Means.{state_of, store_in, store_rows, IsView, IsUnder}
-use Rattle.transactions.specs.Txns.{TxnKept, own_rows, reads, MeansWrites, IsTxn}
+use Rattle.transactions.specs.Txns.{TxnKept, own_rows, reads, MeansWrites}
 
 module _ {R : Type 0} (rows : R → List Row) where
   -- what a store of the view holds with these writes

@@ -1,13 +1,11 @@
 -- The machine's transaction that a transaction stands for.
-use Rattle.std.proofs.Common.{◌≡◌, ℕ, List, [], refl, sym, ap, ◌∙◌}
-use Rattle.hse_rows.specs.declared.write.Write.{Write}
+use Rattle.std.proofs.Common.{◌≡◌, List, [], refl, ◌∙◌}
 use Rattle.hse_rows.specs.declared.row.Row.{Row}
 use Rattle.hse_rows.specs.writes.NormalForm.{normal_form}
 use Rattle.hse_rows.specs.states.State.{applied_all}
 use Rattle.hse_rows.specs.states.History.{fold}
 use Rattle.hse_rows.specs.laws.Laws.{NormalFormsDoTheSame}
-use Rattle.view.specs.Means.{state_of}
-use Rattle.transactions.specs.Stands.{StandsFor, ReadsAreRead, NewStandForNew, StagesStand, EndsStand}
+use Rattle.transactions.specs.Stands.{ReadsAreRead, NewStandForNew, StagesStand, EndsStand}
 
 none-normal : [] ≡ normal_form []
 unfolding normal_form

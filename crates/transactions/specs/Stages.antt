@@ -1,12 +1,11 @@
 -- One write more, and what a read in a transaction is refused for.
-use Rattle.std.specs.Prelude.{◌≡◌, ℕ, ◌+◌, List, [], ◌∷◌, ◌++◌, None}
+use Rattle.std.specs.Prelude.{◌≡◌, ℕ, ◌+◌, List, [], ◌∷◌, ◌++◌}
 use Rattle.hse_rows.specs.declared.row.Row.{Row}
 use Rattle.hse_rows.specs.declared.write.Write.{Write}
 use Rattle.hse_rows.specs.writes.NormalForm.{normal_form, Continues}
 use Rattle.ingest_tree.specs.Rows.{store_row, row_numbered, rows_with}
 use Rattle.view.specs.declared.get_fault.GetFault.{GetFault}
 use Rattle.view.specs.declared.get_fault.GetFault.TheVariants.{NotActive, NoStore, KeyLength}
-use Rattle.view.specs.declared.get_fault.TxnState.{TxnState}
 use Rattle.view.specs.declared.get_fault.TxnState.TheVariants.{Active}
 use Rattle.view.specs.Gets.{RefusesGet}
 use Rattle.transactions.specs.Txns.{TxnKept, StagedState, own_rows, reads}

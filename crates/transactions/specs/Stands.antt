@@ -1,5 +1,5 @@
 -- The transaction of the machine that a transaction stands for, and how its calls lead on.
-use Rattle.std.specs.Prelude.{◌≡◌, ℕ, List, [], ◌∷◌}
+use Rattle.std.specs.Prelude.{◌≡◌, ℕ, List}
 use Rattle.hse_rows.specs.declared.row.Row.{Row}
 use Rattle.hse_rows.specs.declared.write.Write.{Write}
 use Rattle.hse_rows.specs.writes.NormalForm.{normal_form}

@@ -16,11 +16,10 @@ use hse_rows::{
     Change, Row, Shared, StoreId, StoreName, WriteSet, normal_forms_do_the_same,
     normal_forms_overlap_the_same,
 };
-use ingest_tree::{IngestTree, stores_take_their_rows};
-use row_laws::keys_hold_newest_rows;
+use ingest_tree::IngestTree;
 use std::alloc::Global;
 use std::marker::Model;
-use view::{GetFault, TxnState, View, is_key, newer_layers_go_over};
+use view::{GetFault, TxnState, View, is_key, layers_take_rows, newer_layers_go_over};
 
 /// A snapshot, the writes made in it, and how it ended. The own writes stand twice: in normal form, as
 /// a commit has them, and as rows that are newer than the snapshot, as reads want them.
@@ -157,10 +156,9 @@ impl<R: Shared> Txn<R> {
         requires { WasStaged self.old staged }
         ensures { self.new ≡ with_staged self.old staged }
     {
-        keys_hold_newest_rows();
         normal_forms_do_the_same();
         normal_forms_overlap_the_same();
-        stores_take_their_rows();
+        layers_take_rows();
         self.writes = staged.writes;
         self.own = Some(staged.own);
         self.last = staged.last;

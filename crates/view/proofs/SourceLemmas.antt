@@ -1,25 +1,21 @@
 -- A merge over all sets of a tree may take them in the order of the nodes, since a key's rows stand on its path.
-use Rattle.std.proofs.Common.{◌≡◌, ℕ, ◌<◌, Bool, true, false, true≢false, cond, not, ◌&&◌, ◌||◌, List, [], ◌∷◌, ◌++◌, map, Option, Some, None, refl, sym, ap, ◌∙◌, subst, append-nil}
+use Rattle.std.proofs.Common.{◌≡◌, ℕ, ◌<◌, Bool, true, false, true≢false, cond, ◌||◌, List, [], ◌∷◌, ◌++◌, map, Option, Some, None, refl, sym, ap, ◌∙◌, subst, append-nil}
 use Rattle.std.specs.Prelude.{IfSome, is_some, nat_lt}
 use Rattle.std.proofs.lemmas.List.{map-append}
 use Rattle.std.proofs.lemmas.Grind.{flat_map-append}
 use Rattle.std.specs.List.{AllByRecursion, list_any, flat_map}
-use Rattle.std.specs.List.Sorted.{IsStrictlySortedBy}
 use Rattle.hse_rows.specs.declared.row.Row.{Row}
 use Rattle.hse_rows.specs.writes.Change.{covers}
 use Rattle.hse_rows.specs.rows.Meaning.{is_own, newer, own_at}
 use Rattle.row_laws.specs.Laws.{FallingRowsFallAlone}
 use Rattle.row_laws.specs.Next.{OwnFalls}
 use Rattle.row_laws.specs.Sources.{all_rows, AreLayersOver}
-use Rattle.ingest_tree.specs.declared.store_row.StoreRow.{StoreRow}
 use Rattle.ingest_tree.specs.Rows.{rows_in}
 use Rattle.cn_tree.specs.Path.{path_of}
-use Rattle.cn_tree.specs.Tree.{TreeState, TreeNode, AreNodes, path_cmp, sets_on}
+use Rattle.cn_tree.specs.Tree.{TreeState, TreeNode, AreNodes, sets_on}
 use Rattle.sorted_lists.specs.laws.Lists.{each-append, each-front, each-rest}
-use Rattle.view.specs.declared.view_store.ViewStore.{ViewStore}
-use Rattle.view.specs.Routed.{node_rows, tree_rows, StandsAt, IsRouted}
-use Rattle.view.specs.Means.{store_rows, IsUnder}
-use Rattle.view.specs.Merges.{tree_sets, sources_of, SourcesAreRows, SourcesFall}
+use Rattle.view.specs.Routed.{node_rows, StandsAt, IsRouted}
+use Rattle.view.specs.Merges.{tree_sets, SourcesAreRows, SourcesFall}
 use Rattle.view.proofs.PathLemmas.{sets-on_path}
 use Rattle.view.proofs.TreeLemmas.{four-digits, rows-off}
 

@@ -1,5 +1,5 @@
 -- What a key holds in a tree's rows is what the rows on its path say.
-use Rattle.std.proofs.Common.{◌≡◌, ℕ, ◌==◌, Bool, true, false, true≢false, cond, not, ◌&&◌, ◌||◌, List, [], ◌∷◌, ◌++◌, length, map, Option, Some, None, refl, sym, ap, ◌∙◌, subst}
+use Rattle.std.proofs.Common.{◌≡◌, ℕ, ◌==◌, Bool, true, false, true≢false, cond, not, ◌&&◌, ◌||◌, List, [], ◌∷◌, ◌++◌, length, map, refl, sym, ap, ◌∙◌, subst}
 use Rattle.std.proofs.lemmas.List.Folds.{list_any-append}
 use Rattle.std.specs.List.{AllByRecursion, list_any, flat_map}
 use Rattle.std.specs.FinMap as fin_map
@@ -11,7 +11,7 @@ use Rattle.hse_rows.specs.writes.Change.{covers, target}
 use Rattle.hse_rows.specs.writes.NormalForm.{rank, same}
 use Rattle.hse_rows.specs.writes.Reach.{reaches}
 use Rattle.hse_rows.specs.rows.Routing.{is_short}
-use Rattle.hse_rows.specs.rows.Meaning.{contents_of, is_own, own_at, covered_at}
+use Rattle.hse_rows.specs.rows.Meaning.{contents_of, is_own}
 use Rattle.row_laws.specs.Laws.{PathsDecide, LastingRowsLeaveValues}
 use Rattle.row_laws.specs.Parts.{RowPart, rows_on, rows_off, rows_in, StandsOnPath}
 use Rattle.row_laws.specs.Sources.{all_rows}

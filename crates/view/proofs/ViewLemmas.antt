@@ -1,8 +1,8 @@
 -- What a key holds in a store of a view: what the first layer that says something of it says, or else what the tree holds.
-use Rattle.std.proofs.Common.{◌≡◌, ℕ, ◌<◌, ◌≤◌, ◌==◌, Bool, true, false, cond, List, [], ◌∷◌, ◌++◌, map, Option, Some, None, refl, sym, ap, ◌∙◌, subst, append-nil, arith}
+use Rattle.std.proofs.Common.{◌≡◌, ℕ, ◌<◌, ◌≤◌, Bool, true, false, cond, List, [], ◌∷◌, ◌++◌, map, Option, Some, None, refl, sym, ap, ◌∙◌, subst, append-nil, arith}
 use Rattle.std.specs.Prelude.{IfSome}
 use Rattle.std.proofs.lemmas.Grind.{flat_map-append}
-use Rattle.std.specs.List.{AllByRecursion, find, filter, flat_map}
+use Rattle.std.specs.List.{AllByRecursion, find}
 use Rattle.std.specs.Option.{option_map}
 use Rattle.std.specs.FinMap as fin_map
 use Rattle.hse_rows.specs.declared.row.Row.{Row}
@@ -17,6 +17,7 @@ use Rattle.sorted_lists.specs.laws.Lists.{each-weaker, each-front, each-rest, ea
 use Rattle.view.specs.declared.view_store.ViewStore.{ViewStore}
 use Rattle.view.specs.Views.{ViewState}
 use Rattle.view.specs.Routed.{tree_rows, IsRouted}
+use Rattle.view.specs.Layers.{each-of_store}
 use Rattle.view.specs.Means.{layer_rows, set_rows, store_rows, store_in, state_of, IsView, IsUnder}
 
 -- ---- layers over other rows
@@ -74,18 +75,11 @@ some-mapped f P None some = tt
 some-mapped f P (Some x) some = some
 
 module _ (P : Row → Type 0) (id : ℕ) where
-  each-of_store : (layer : List StoreRow) → AllByRecursion P (layer_rows layer) → AllByRecursion P (rows_in id layer)
-  each-of_store [] all = tt
-  each-of_store (row ∷ layer) all =
-      elim (row.store.0 == id)
-      as (λ b. AllByRecursion P (map (λ (r : StoreRow). r.row) (cond b (row ∷ filter (λ (r : StoreRow). r.store.0 == id) layer) (filter (λ (r : StoreRow). r.store.0 == id) layer))))
-      [ true ↦ (all.0, each-of_store layer all.1) | false ↦ each-of_store layer all.1 ]
-
-  each-of_layers : (layers : List (List StoreRow)) → AllByRecursion P (all_rows (map layer_rows layers)) → AllByRecursion P (all_rows (map (rows_in id) layers))
+  pub each-of_layers : (layers : List (List StoreRow)) → AllByRecursion P (all_rows (map layer_rows layers)) → AllByRecursion P (all_rows (map (rows_in id) layers))
   each-of_layers [] all = tt
   each-of_layers (layer ∷ layers) all =
       each-append P (rows_in id layer) (all_rows (map (rows_in id) layers))
-      (each-of_store layer (each-front P (layer_rows layer) (all_rows (map layer_rows layers)) all))
+      (each-of_store P id layer (each-front P (layer_rows layer) (all_rows (map layer_rows layers)) all))
       (each-of_layers layers (each-rest P (layer_rows layer) (all_rows (map layer_rows layers)) all))
 
 -- layers over some rows are over fewer, and so are the rows of one store in them
@@ -104,7 +98,7 @@ layers-under near far id fewer (layer ∷ layers) over = (
 
 module _ {R : Type 0} (rows : R → List Row) where
   -- each store's rows are among those of all
-  each-tree : (P : Row → Type 0) (stores : List (ViewStore R)) → AllByRecursion P (set_rows rows stores)
+  pub each-tree : (P : Row → Type 0) (stores : List (ViewStore R)) → AllByRecursion P (set_rows rows stores)
       → AllByRecursion (λ (store : ViewStore R). AllByRecursion P (tree_rows rows store.tree)) stores
   each-tree P [] all = tt
   each-tree P (store ∷ stores) all = (

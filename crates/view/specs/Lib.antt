@@ -4,4 +4,6 @@ pub mod Means
 pub mod Index
 pub mod Merges
 pub mod Gets
+pub mod Commits
 pub mod Laws
+pub mod Layers

@@ -1,5 +1,5 @@
 -- A tree whose sets stand where a key looks for them: the condition that an opening tests of a device's sets.
-use Rattle.std.specs.Prelude.{◌≡◌, ℕ, Bool, true, false, List, length, map, flat_map, Some}
+use Rattle.std.specs.Prelude.{◌≡◌, ℕ, true, false, List, length, map, flat_map, Some}
 use Rattle.std.specs.List.{AllByRecursion}
 use Rattle.hse_rows.specs.declared.row.Row.{Row}
 use Rattle.hse_rows.specs.declared.change.Change.{Change}

@@ -10,6 +10,8 @@ mod view;
 mod view_store;
 
 pub use get_fault::{GetFault, TxnState};
-pub use laws::{newer_layers_go_over, stores_are_merged};
+pub use laws::{
+    commits_happen, freezes_keep_states, layers_take_rows, newer_layers_go_over, stores_are_merged,
+};
 pub use view::{View, is_key};
 pub use view_store::ViewStore;

@@ -1,5 +1,5 @@
 //! What of a view lies behind its active layer.
-ghost use Rattle.std.specs.Prelude.{◌≡◌, IfOk};
+ghost use Rattle.std.specs.Prelude.{◌≡◌, ◌==◌, IfOk};
 ghost use Rattle.std.specs.List.{find};
 ghost use Rattle.std.specs.Option.{option_map};
 ghost use Rattle.hse_rows.specs.writes.NormalForm.{same};
@@ -9,7 +9,7 @@ ghost use Rattle.view.specs.Views.{rest_of};
 use crate::index::index_of;
 use crate::view_store::ViewStore;
 use hse_io::NoMemory;
-use hse_rows::{Shared, StoreName};
+use hse_rows::{Shared, StoreId, StoreName};
 use ingest_tree::IngestTree;
 use std::alloc::Global;
 use std::collections::BTreeMap;
@@ -32,6 +32,19 @@ impl<R: Shared> Model for Rest<R> {
     ghost view = { λ rest. rest_of rest.stores.items rest.frozen.items };
 
     ghost invariant = { λ rest. IsIndex rest.stores.items rest.by_name };
+}
+
+/// The first of these stores that has an id.
+fn find_id<R: Shared>(stores: &[ViewStore<R>], id: StoreId) -> Option<&ViewStore<R>>
+    ensures { option_map (λ store. store.now) result
+        ≡ find (λ store. store.id.0 == id.0) stores.now }
+{
+    for store in stores {
+        if store.id.0 == id.0 {
+            return Some(store);
+        }
+    }
+    None
 }
 
 impl<R: Shared> Rest<R> {
@@ -61,6 +74,14 @@ impl<R: Shared> Rest<R> {
             None => None,
             Some(at) => Some(&self.stores[*at as usize]),
         }
+    }
+
+    /// The store of an id. The stores are in no order of their ids, so each is asked.
+    pub(crate) fn store_of(&self, id: StoreId) -> Option<&ViewStore<R>>
+        ensures { option_map (λ store. store.now) result
+            ≡ find (λ store. store.id.0 == id.0) self.now.stores }
+    {
+        find_id(&self.stores, id)
     }
 
     /// The frozen layers, newest first.

@@ -1,27 +1,25 @@
 //! A view of a state.
-ghost use Rattle.std.specs.Prelude.{◌≡◌, ◌↔◌, ◌∷◌, length, map, slice_get, IsTrue, IfOk, IfErr, IfSome};
+ghost use Rattle.std.specs.Prelude.{◌≡◌, ◌==◌, ◌↔◌, ◌∷◌, length, map, slice_get, IsTrue, IfOk, IfErr, IfSome};
 ghost use Rattle.std.specs.List.{find};
 ghost use Rattle.std.specs.Option.{option_map};
 ghost use Rattle.std.specs.FinMap as fin_map;
 ghost use Rattle.hse_rows.specs.writes.Lengths.{IsKeyLength};
 ghost use Rattle.hse_rows.specs.writes.NormalForm.{same};
 ghost use Rattle.hse_rows.specs.rows.Meaning.{contents_of};
-ghost use Rattle.hse_rows.specs.rows.RowSets.{row_by};
 ghost use Rattle.ingest_tree.specs.Rows.{rows_in};
 ghost use Rattle.row_laws.specs.Lookup.{word_of};
 ghost use Rattle.row_laws.specs.Sources.{first_said};
-ghost use Rattle.row_laws.specs.Next.{value_left};
 ghost use Rattle.view.specs.declared.view_store.ViewStore.{ViewStore as a_store};
 ghost use Rattle.view.specs.Views.{rest_of, view_of, with_active, with_rest, layers_with};
 ghost use Rattle.view.specs.Means.{IsView, IsUnder, state_of, store_rows};
 ghost use Rattle.view.specs.Gets.{Gets, RefusesGet};
 
 use crate::get_fault::GetFault;
-use crate::layer::{first_word, layer_word};
+use crate::layer::{first_word, layer_word, value_of};
 use crate::rest::Rest;
 use crate::view_store::ViewStore;
 use hse_io::NoMemory;
-use hse_rows::{ChangeRef, RowRef, Shared, StoreId, StoreName};
+use hse_rows::{Shared, StoreId, StoreName};
 use ingest_tree::IngestTree;
 use row_laws::{Word, first_sources_decide, merged_rows_are_entries};
 use std::alloc::Global;
@@ -47,20 +45,6 @@ impl<R: Shared> Model for View<R> {
     ghost view = { λ v. view_of v.number v.active (arc_value v.rest) };
 
     ghost invariant = { λ v. IsView R.rows (view_of v.number v.active (arc_value v.rest)) };
-}
-
-/// The value that a row leaves, where there is one.
-fn value_of(row: Option<RowRef<'_>>) -> Option<&[u8]>
-    ensures { option_map (λ bytes. bytes.now) result ≡ value_left (row_by row.entry) }
-{
-    match row {
-        None => None,
-        Some(row) => match row.change {
-            ChangeRef::Put(_, value) => Some(value),
-            ChangeRef::Del(_) => None,
-            ChangeRef::PDel(_) => None,
-        },
-    }
 }
 
 /// The most bytes that a key has.
@@ -124,6 +108,22 @@ impl<R: Shared> View<R> {
         ensures known { IfSome result (λ store. IsUnder R.rows self.now.layers store.now) }
     {
         self.rest.store(name)
+    }
+
+    /// The store of an id, and none where no store has it. It takes no memory.
+    pub fn store_of(&self, id: StoreId) -> Option<&ViewStore<R>>
+        ensures store { option_map (λ store. store.now) result
+            ≡ find (λ store. store.id.0 == id.0) self.now.stores }
+        ensures known { IfSome result (λ store. IsUnder R.rows self.now.layers store.now) }
+    {
+        self.rest.store_of(id)
+    }
+
+    /// How many layers there are. It takes no memory.
+    pub fn layers(&self) -> u64
+        ensures { result ≡ length self.now.layers }
+    {
+        self.rest.frozen().len() as u64 + 1
     }
 
     /// The layer at a place: the active one at 0, and then the frozen ones, newest first. It takes no

@@ -17,8 +17,8 @@ row-requires g c =
     slice_get_within (g.R.RowSet.rows c.index-sources-source.result) c.args.at c.requires.0
     (row-index g.R.RowSet.rows c.args.sources.now c.args.source c.args.at c.requires.0 c.index-sources-source.result c.requires.1 c.index-sources-source.is)
 
-pub returns : goal.returns
-returns g c =
+pub returns-clause-row : goal.returns-clause-row
+returns-clause-row g c =
     row-made g.R.RowSet.rows c.args.sources.now c.args.source c.args.at (row_of c.row.result) c.index-sources-source.result
     (row-source g.R.RowSet.rows c.args.sources.now c.args.source c.args.at c.requires.0 c.requires.1)
     c.index-sources-source.is c.row.ensures

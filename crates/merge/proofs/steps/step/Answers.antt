@@ -44,6 +44,12 @@ returns-then-is_lasting g c =
             c.in-Some.ensures.row lasts;
         goes = goes;
       };
+      fewer =
+          let less : all_left direction sources c.pass.new.places < all_left direction sources places =
+          subst (λ (p : List ℕ). all_left direction sources p < all_left direction sources places) (sym passed)
+          (all-fewer direction (target row.change) sources places c.in-Some.source row c.in-Some.ensures.at
+          (turn-own direction sources c.are_known.ensures c.requires.falls c.loop-source.invariant.stands.now places now row c.in-Some.ensures.row)) in
+          omega (arith, less, c.loop-source.invariant.fewer);
     }
 
 pub loop-source-smaller : goal.loop-source-smaller
@@ -80,6 +86,12 @@ loop-source-preserved g c =
           subst (GoesOn direction position sources) (sym passed)
           (turn-goes direction sources c.are_known.ensures c.requires.falls position places (c.loop-source.invariant.goes position start) row
           c.in-Some.ensures.row hidden);
+      fewer =
+          let less : all_left direction sources c.pass.new.places < all_left direction sources places =
+          subst (λ (p : List ℕ). all_left direction sources p < all_left direction sources places) (sym passed)
+          (all-fewer direction (target row.change) sources places c.in-Some.source row c.in-Some.ensures.at
+          (turn-own direction sources c.are_known.ensures c.requires.falls c.loop-source.invariant.stands.now places now row c.in-Some.ensures.row)) in
+          omega (arith, less, c.loop-source.invariant.fewer);
     }
 
 pub returns : goal.returns
@@ -93,4 +105,5 @@ returns g c =
         turn-none direction sources c.are_known.ensures c.requires.falls position places (c.loop-source.invariant.goes position start) c.in_default.ensures.row,
         c.loop-source.invariant.goes position start,
       );
+      fewer = tt;
     }

@@ -1,4 +1,4 @@
-use Rattle.std.proofs.Common.{◌≡◌, length, map}
+use Rattle.std.proofs.Common.{◌≡◌, ◌≤◌, length, map}
 use Rattle.hse_rows.specs.script.Cursor.{Position}
 use Rattle.merge.specs.Places.{direction_of, all_left}
 use Rattle.merge.specs.Steps.{GoesOn, AreAt}
@@ -11,6 +11,9 @@ invariant-loop-source g l = record {
   stands : AreAt (direction_of l.fn.reverse) (map g.R.RowSet.rows l.fn.sources) l.places;
   goes : (position : Position) → GoesOn (direction_of l.fn.reverse) position (map g.R.RowSet.rows l.fn.sources) l.fn.places
       → GoesOn (direction_of l.fn.reverse) position (map g.R.RowSet.rows l.fn.sources) l.places;
+  fewer :
+      all_left (direction_of l.fn.reverse) (map g.R.RowSet.rows l.fn.sources) l.places
+      ≤ all_left (direction_of l.fn.reverse) (map g.R.RowSet.rows l.fn.sources) l.fn.places;
 }
 
 -- each turn leaves fewer rows ahead

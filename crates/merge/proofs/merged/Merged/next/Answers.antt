@@ -7,6 +7,6 @@ returns-in-None g c = ((refl, λ _. tt, c.in-None.ensures.goes None tt), record 
 
 pub returns-in-Some : goal.returns-in-Some
 returns-in-Some g c = (
-  (refl, λ _. tt, c.in-Some.ensures.goes (Some (row_of c.row.result)) c.row.ensures),
-  record { row = c.in-Some.ensures.row (Some (row_of c.row.result)) c.row.ensures; after = tt },
+  (refl, λ _. tt, c.in-Some.ensures.goes (Some (row_of c.row.result)) c.row.ensures.row),
+  record { row = c.in-Some.ensures.row (Some (row_of c.row.result)) c.row.ensures.row; after = tt },
 )

@@ -1,5 +1,3 @@
-use Rattle.std.proofs.Common.{refl, sym, ◌∙◌, arith}
-use Rattle.std.specs.List.Sorted.{IsStrictlySortedBy}
 use Rattle.transactions.proofs.OwnLemmas.{new-stands}
 use Rattle.transactions.proofs.txn.Txn.begin.Goals as goal
 

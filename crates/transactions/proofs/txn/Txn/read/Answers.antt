@@ -5,7 +5,7 @@ use Rattle.std.specs.FinMap as fin_map
 use Rattle.hse_rows.specs.writes.NormalForm.{same}
 use Rattle.hse_rows.specs.rows.Meaning.{contents_of}
 use Rattle.view.specs.declared.view_store.ViewStore.{ViewStore}
-use Rattle.view.specs.Views.{ViewState, layers_with}
+use Rattle.view.specs.Views.{layers_with}
 use Rattle.view.specs.Means.{store_rows, IsView}
 use Rattle.transactions.specs.Txns.{TxnKept, IsTxn}
 use Rattle.transactions.proofs.ReadLemmas.{read_store, named-read, contents-read}

@@ -1,8 +1,7 @@
-use Rattle.std.proofs.Common.{◌≡◌, ◌∙◌, sym, ap, map, Option, List, ℕ}
+use Rattle.std.proofs.Common.{◌∙◌, sym, ap, map}
 use Rattle.std.specs.FinMap as fin_map
 use Rattle.hse_rows.specs.rows.Meaning.{contents_of}
 use Rattle.row_laws.specs.Next.{value_left}
-use Rattle.row_laws.specs.Sources.{first_said}
 use Rattle.ingest_tree.specs.Rows.{rows_in}
 use Rattle.view.specs.Routed.{tree_rows}
 use Rattle.std.specs.Option.{option_map}
