@@ -1,1 +1,4 @@
 pub mod Layouts
+pub mod Superblock
+pub mod Answers
+pub mod laws

@@ -22,7 +22,7 @@ pub struct Layout {
 pub(crate) const VERSION: u32 = 2;
 
 /// The size of the superblock, in bytes.
-const SUPERBLOCK: u64 = 4_096;
+pub const SUPERBLOCK: u64 = 4_096;
 
 impl Layout {
     /// The layout of a device that is made so. There is none exactly where the parameters are not

@@ -2,6 +2,7 @@
 ghost use Rattle.std.specs.Prelude.{◌≡◌, ◌≤◌, ◌^◌, ◌↔◌, IsTrue};
 ghost use Rattle.hse_rows.specs.machine.Sizes.{IsRegionSize, device_bytes};
 ghost use Rattle.device_layout.specs.Layouts.{sizes_of, AreGood};
+ghost use Rattle.device_layout.specs.Superblock.{may_be_power, may_be_slot_count, may_be_region_size, may_be_store_limit};
 
 /// What a device is made with: the power of two that is a slot's size in bytes, how many slots there
 /// are, the bytes of a manifest half and of a log segment, and the most stores that may be live.
@@ -23,28 +24,32 @@ const LARGEST_DEVICE: u64 = 1_073_741_824;
 
 /// Whether a slot's size may be this power of two.
 pub(crate) fn is_power(power: u8) -> bool
-    ensures { IsTrue result ↔ (16 ≤ power) × (power ≤ 25) }
+    ensures limits { IsTrue result ↔ (16 ≤ power) × (power ≤ 25) }
+    ensures test { result ≡ may_be_power power }
 {
     16 <= power && power <= 25
 }
 
 /// Whether there may be so many slots.
 pub(crate) fn is_slot_count(slots: u32) -> bool
-    ensures { IsTrue result ↔ (4 ≤ slots) × (slots ≤ 16384) }
+    ensures limits { IsTrue result ↔ (4 ≤ slots) × (slots ≤ 16384) }
+    ensures test { result ≡ may_be_slot_count slots }
 {
     4 <= slots && slots <= 16_384
 }
 
 /// Whether a manifest half or a log segment may have so many bytes.
 pub(crate) fn is_region_size(bytes: u64) -> bool
-    ensures { IsTrue result ↔ IsRegionSize bytes }
+    ensures limits { IsTrue result ↔ IsRegionSize bytes }
+    ensures test { result ≡ may_be_region_size bytes }
 {
     65_536 <= bytes && bytes <= 67_108_864 && bytes % BLOCK == 0
 }
 
 /// Whether so many stores may be the most that may be live.
 pub(crate) fn is_store_limit(stores: u16) -> bool
-    ensures { IsTrue result ↔ (1 ≤ stores) × (stores ≤ 4096) }
+    ensures limits { IsTrue result ↔ (1 ≤ stores) × (stores ≤ 4096) }
+    ensures test { result ≡ may_be_store_limit stores }
 {
     1 <= stores && stores <= 4_096
 }

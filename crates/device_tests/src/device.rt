@@ -3,7 +3,7 @@ ghost use Rattle.std.specs.Prelude.{◌≡◌};
 ghost use Rattle.device_layout.specs.Layouts.{IsGood};
 
 use device_layout::{Layout, Params};
-use gate_log::{Batch, Tail, append, start};
+use gate_log::{Batch, Region, append, start};
 use manifest::{LoadFault, Loaded, load};
 use media_disk::MemDisk;
 use std::alloc::Global;
@@ -51,6 +51,32 @@ pub(crate) fn layout(rt: &impl Abort) -> Layout
     }
 }
 
+/// Starts a region with this sequence, and adds these batches.
+pub(crate) fn fill(
+    rt: &impl Abort,
+    alloc: Global,
+    disk: &mut MemDisk,
+    region: Region,
+    sequence: u64,
+    payloads: &[&[u8]],
+) -> Result<(), Fail> {
+    assert!(rt; region.at <= SIZE as u64);
+    assert!(rt; region.size <= SIZE as u64);
+    assert!(rt; region.size >= 10);
+    let len = disk.bytes().len() as u64;
+    assert!(rt; region.at + region.size <= len);
+    let mut tail = start(disk, &region, sequence)?;
+    for payload in payloads {
+        assert!(rt; payload.len() < 100);
+        let batch = Batch::of(alloc, payload)?;
+        let len = disk.bytes().len() as u64;
+        assert!(rt; region.at + region.size <= len);
+        assert!(rt; tail.place < region.size);
+        append(disk, &region, &mut tail, &batch)?;
+    }
+    Ok(())
+}
+
 /// A device whose half has this sequence and these batches.
 pub(crate) fn with_batches(
     rt: &impl Abort,
@@ -62,18 +88,7 @@ pub(crate) fn with_batches(
     let mut disk = MemDisk::of(alloc, vec![in alloc; 0; SIZE]?);
     let layout = layout(rt);
     assert!(rt; half < 2);
-    let region = layout.half(half);
-    let len = disk.bytes().len() as u64;
-    assert!(rt; region.at + region.size <= len);
-    let mut tail = start(&mut disk, &region, sequence)?;
-    for payload in payloads {
-        assert!(rt; payload.len() < 100);
-        let batch = Batch::of(alloc, payload)?;
-        let len = disk.bytes().len() as u64;
-        assert!(rt; region.at + region.size <= len);
-        assert!(rt; tail.place < region.size);
-        append(&mut disk, &region, &mut tail, &batch)?;
-    }
+    fill(rt, alloc, &mut disk, layout.half(half), sequence, payloads)?;
     Ok(disk)
 }
 

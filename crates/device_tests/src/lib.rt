@@ -6,4 +6,10 @@ mod device;
 #[cfg(test)]
 mod loads;
 #[cfg(test)]
+mod recovers;
+#[cfg(test)]
 mod rolls;
+#[cfg(test)]
+mod spells;
+#[cfg(test)]
+mod superblocks;

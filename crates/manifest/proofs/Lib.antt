@@ -5,3 +5,4 @@ pub mod BatchLemmas
 pub mod HeadLemmas
 pub mod LogLemmas
 pub mod RollLemmas
+pub mod EachImage

@@ -1,22 +1,23 @@
 -- The other half started with the next sequence and a base.
-use Rattle.std.proofs.Common.{◌≡◌, ◌∙◌, inl, inr, ⊎_elim, ℕ, zero, suc, ◌+◌, ◌-◌, ◌%◌, ◌<◌, ◌≤◌, ◌^◌, Bool, true, false, List, [], ◌∷◌, take, Some, None, Result, Ok, Err, refl, sym, ap, subst, arith}
+use Rattle.std.proofs.Common.{◌≡◌, ◌∙◌, ◌⊎◌, inl, inr, ⊎_elim, ℕ, zero, suc, ◌+◌, ◌-◌, ◌%◌, ◌<◌, ◌≤◌, ◌^◌, Bool, true, false, List, [], ◌∷◌, take, Some, None, Result, Ok, Err, refl, sym, ap, subst, arith}
 use Rattle.std.specs.Prelude.{nat_lt, if◌then◌else◌}
 use Rattle.std.proofs.lemmas.Bool.{and_parts, eqb-true, eq-eqb, le-leb, lt-ltb, le-ltb}
+use Rattle.std.proofs.lemmas.List.Sums.{sum_by-cons}
 use Rattle.media_disk.specs.Content.{Torn}
 use Rattle.media_disk.specs.Images.{IsImage}
 use Rattle.media_disk.specs.laws.Images.{image_now, one_image}
 use Rattle.gate_log.specs.Crashes as region
 use Rattle.gate_log.specs.Crashes.{IsWithin, ClosedOrStarted}
 use Rattle.gate_log.specs.Gates.{Gated, IsClosed, first_gate}
-use Rattle.gate_log.specs.Places.{AreApart, region_of, tail_of}
+use Rattle.gate_log.specs.Places.{AreApart, need_of, region_of}
 use Rattle.gate_log.specs.laws.Ranges.{torn_twice}
 use Rattle.gate_log.specs.laws.Regions.{other_region, other_within}
 use Rattle.device_layout.specs.Layouts.{half_of}
 use Rattle.device_layout.specs.declared.layout.Layout.{Layout}
-use Rattle.manifest.specs.Half.{Head, closed, open_head, candidate, greater, head_fits, head_in, head_of, in_force, is_sequence_of, half_in_force, Holds, entries_of}
+use Rattle.manifest.specs.Half.{Head, closed, open_head, candidate, greater, head_fits, head_in, head_of, in_force, is_sequence_of, half_in_force, head_size, Holds, entries_of}
 use Rattle.manifest.specs.Metadata.{Metadata}
 use Rattle.manifest.specs.Reading.{payload_of}
-use Rattle.manifest.specs.Writing.{HalvesApart, OldOrNew}
+use Rattle.manifest.specs.Writing.{HalvesApart}
 use Rattle.manifest.proofs.HeadLemmas.{head_is, closed_head, gated_head, has_any, half_apart}
 use Rattle.manifest.proofs.LogLemmas.{some_batch, half_head}
 
@@ -26,7 +27,7 @@ pub first_entry : (most : ℕ) (payload : List ℕ) (m : Metadata) → payload_o
 unfolding entries_of
 first_entry most payload m read = rw read refl
 
-fits_by : (a b : Bool) (r : Result ℕ (ℕ × ℕ)) (half : ℕ)
+pub fits_by : (a b : Bool) (r : Result ℕ (ℕ × ℕ)) (half : ℕ)
     → (if a then (if b then r else Err (1, 1)) else Err (0, 1)) ≡ Ok half → (a ≡ true) × (b ≡ true) × (r ≡ Ok half)
 fits_by true true r half is = (refl, refl, is)
 fits_by true false r half is = absurd cc
@@ -151,32 +152,34 @@ module _ (layout : Layout) (half sequence place : ℕ) (lt : half < 2) (size : 1
   -- and the new one is with its base
   pub new_holds : (image : List ℕ) (base : List ℕ) (after : Metadata) → region_of (half_of layout half) image ≡ region_of (half_of layout half) seen
       → Gated (region_of (half_of layout (1 - half)) image) (sequence + 1) (base ∷ []) → payload_of layout.stores None base ≡ Ok after
-      → Holds layout (1 - half) (sequence + 1) (tail_of (base ∷ [])) image after
+      → Holds layout (1 - half) (sequence + 1) (head_size - 1 + need_of base) image after
   new_holds image base after same gated read = record {
     in_force = half_force layout half lt image
         ∙ (λ i. force half (mine image same i) (head_of_other image (base ∷ []) gated i))
         ∙ moves half sequence lt fits (next_sequence half sequence lt small fits);
     payloads = base ∷ [];
     gated = gated;
-    tail = refl;
+    tail = omega (arith, sum_by-cons need_of base []);
     says = first_entry layout.stores base after read;
   }
 
   abbrev pub Within : List (ℕ × ℕ) → List ℕ → Type 0
   Within ranges image = IsWithin (half_of layout (1 - half)) (IsImage seen ranges) image
 
-  is_old : (after : Metadata) (image : List ℕ) → Holds layout half sequence place image before → OldOrNew layout before after image
-  is_old after image holds = inl (record { half = half; sequence = sequence; place = place; holds = holds })
+  -- the old metadata where they were, or the new ones with this batch alone in the other half
+  abbrev pub OldOrNew : List ℕ → Metadata → List ℕ → Type 0
+  OldOrNew base after image =
+      Holds layout half sequence place image before ⊎ Holds layout (1 - half) (sequence + 1) (head_size - 1 + need_of base) image after
 
   -- what a crash within the start leaves
-  pub start_crash : (ranges : List (ℕ × ℕ)) (after : Metadata) → HalvesApart layout ranges → (image : List ℕ)
+  pub start_crash : (ranges : List (ℕ × ℕ)) (base : List ℕ) (after : Metadata) → HalvesApart layout ranges → (image : List ℕ)
       → Within ranges image × ClosedOrStarted (region_of (half_of layout (1 - half)) seen) (sequence + 1) (region_of (half_of layout (1 - half)) image)
-      → Within ranges image × OldOrNew layout before after image
-  start_crash ranges after apart image left =
+      → Within ranges image × OldOrNew base after image
+  start_crash ranges base after apart image left =
       let same = other_within (half_of layout (1 - half)) (half_of layout half) ranges seen image (apart_back layout half lt)
       (half_apart layout half lt ranges apart).0 left.0 in (
         left.0,
-        is_old after image (⊎_elim
+        inl (⊎_elim
             (λ closed_or_same. ⊎_elim
             (λ (is : IsClosed (region_of (half_of layout (1 - half)) image)).
             old_holds image same closed
@@ -192,7 +195,7 @@ module _ (layout : Layout) (half sequence place : ℕ) (lt : half < 2) (size : 1
       → Torn (half_of layout (1 - half)).at layout.manifest seen started → pending ≡ [] → payload_of layout.stores None base ≡ Ok after → (image : List ℕ)
       → IsWithin (half_of layout (1 - half)) (IsImage started pending) image
       × region.OldOrNew (sequence + 1) [] base (region_of (half_of layout (1 - half)) image)
-      → Within ranges image × OldOrNew layout before after image
+      → Within ranges image × OldOrNew base after image
   base_crash ranges started pending base after first none read image left =
       let was : left.0.old ≡ started = one_image started pending left.0.old none left.0.was in
       let second = subst (λ (l : List ℕ). Torn (half_of layout (1 - half)).at layout.manifest l image) was left.0.same in
@@ -200,8 +203,8 @@ module _ (layout : Layout) (half sequence place : ℕ) (lt : half < 2) (size : 1
       let same = other_region (half_of layout (1 - half)) (half_of layout half) seen image (apart_back layout half lt) torn in (
         record { old = seen; was = image_now seen ranges; same = torn },
         ⊎_elim
-            (λ (gated : Gated (region_of (half_of layout (1 - half)) image) (sequence + 1) []). is_old after image (no_batch_holds image same gated))
+            (λ (gated : Gated (region_of (half_of layout (1 - half)) image) (sequence + 1) []). inl (no_batch_holds image same gated))
             (λ (gated : Gated (region_of (half_of layout (1 - half)) image) (sequence + 1) (base ∷ [])).
-            inr (record { half = 1 - half; sequence = sequence + 1; place = _; holds = new_holds image base after same gated read }))
+            inr (new_holds image base after same gated read))
             left.1,
       )

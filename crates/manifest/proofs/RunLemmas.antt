@@ -5,8 +5,9 @@ use Rattle.hse_fields.specs.LogReading.{◌>>=◌}
 use Rattle.hse_rows.specs.machine.TakenRuns.{NumberRun}
 use Rattle.manifest.specs.Reading.{RunsRead, run_of, run_step, with_run}
 use Rattle.manifest.specs.Metadata.{is_joined, joined, with_taken}
-use Rattle.manifest.specs.Views.{Fails, run_as}
-use Rattle.manifest.specs.declared.base.TakenRun.{TakenRun}
+use Rattle.manifest.specs.Views.{Fails}
+use Rattle.hse_rows.specs.machine.TakenRuns.{run_as}
+use Rattle.hse_rows.specs.declared.taken_run.TakenRun.{TakenRun}
 use Rattle.hse_fields.specs.declared.refusal.Refusal.{Refusal}
 use Rattle.hse_fields.specs.declared.refusal.Refusal.TheVariants.{Left, NoMemory}
 

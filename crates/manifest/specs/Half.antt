@@ -118,3 +118,8 @@ pub record BatchesRefused (layout : Layout) (image : List ℕ) (half place : ℕ
 abbrev pub IsRefused : Layout → List ℕ → ℕ → ℕ → Type 0
 IsRefused layout image half place =
     (half_in_force layout image ≡ Err (half, place)) ⊎ BatchesRefused layout image half place
+
+-- The image's manifest says something, or is refused somewhere.
+abbrev pub HasReading : Layout → List ℕ → Type 0
+HasReading layout image =
+    ((m : Metadata) × IsMetadata layout image m) ⊎ ((half : ℕ) × (place : ℕ) × IsRefused layout image half place)

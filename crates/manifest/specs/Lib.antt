@@ -8,5 +8,6 @@ pub mod Loading
 pub mod Faults
 pub mod Writing
 pub mod Entries
+pub mod Machine
 pub mod MayCome
 pub mod laws

@@ -2,20 +2,13 @@
 use Rattle.std.specs.Prelude.{◌≡◌, ℕ, List, map, Option, Some, None, Result, Ok, Err}
 use denote.Ref.{Bor}
 use Rattle.hse_rows.specs.declared.store.Mode.{Mode}
-use Rattle.hse_rows.specs.machine.TakenRuns.{NumberRun}
+use Rattle.hse_rows.specs.machine.TakenRuns.{runs_as}
 use Rattle.manifest.specs.Text.{described_text}
 use Rattle.manifest.specs.Metadata.{LiveStore, Metadata}
 use Rattle.manifest.specs.declared.base.Base.{Base}
 use Rattle.manifest.specs.declared.base.BaseStore.{BaseStore}
-use Rattle.manifest.specs.declared.base.TakenRun.{TakenRun}
 use Rattle.hse_fields.specs.declared.refusal.Refusal.{Refusal}
 use Rattle.hse_fields.specs.declared.refusal.Refusal.TheVariants.{Left, NoMemory}
-
-abbrev pub run_as : TakenRun → NumberRun
-run_as run = record { first = run.first; count = run.count }
-
-abbrev pub runs_as : List TakenRun → List NumberRun
-runs_as runs = map run_as runs
 
 abbrev pub store_as : BaseStore → LiveStore
 store_as store =

@@ -8,7 +8,8 @@ use Rattle.gate_log.specs.Crashes.{IsWithin}
 use Rattle.gate_log.specs.Places.{IsApart, need_of, room_of}
 use Rattle.device_layout.specs.Layouts.{half_of}
 use Rattle.device_layout.specs.declared.layout.Layout.{Layout}
-use Rattle.manifest.specs.Half.{IsMetadata, head_size}
+use Rattle.manifest.specs.Half.{Holds, head_size}
+use Rattle.manifest.specs.Loading.{HoldsAt}
 use Rattle.manifest.specs.Metadata.{Metadata, greatest_number}
 use Rattle.manifest.specs.declared.fault.ManifestFault.{ManifestFault}
 use Rattle.manifest.specs.declared.fault.ManifestFault.TheVariants.{ManifestFull, Device}
@@ -38,7 +39,7 @@ pub record IsRolled (old new : Manifest) (need : ℕ) : Type 0 where
 
 -- An entry that is logged is full exactly where its need is more than the room; a failed one leaves the place.
 abbrev pub IsLogAnswer : Manifest → Manifest → List ℕ → Result (Unit {0}) ManifestFault → Type 0
-IsLogAnswer old new payload (Ok value) = IsLogged old new (need_of payload)
+IsLogAnswer old new payload (Ok value) = (need_of payload ≤ room_in old) × IsLogged old new (need_of payload)
 IsLogAnswer old new payload (Err (ManifestFull need room)) =
     (room_in old < need_of payload) × (need ≡ need_of payload) × (room ≡ room_in old) × (new ≡ old)
 IsLogAnswer old new payload (Err Device) = (need_of payload ≤ room_in old) × (new ≡ old)
@@ -48,7 +49,7 @@ abbrev pub IsRollFull : Manifest → List ℕ → Type 0
 IsRollFull m payload = (room_of_half m.layout < need_of payload) ⊎ (greatest_number ≤ m.sequence)
 
 abbrev pub IsRollAnswer : Manifest → Manifest → List ℕ → Result (Unit {0}) ManifestFault → Type 0
-IsRollAnswer old new payload (Ok value) = IsRolled old new (need_of payload)
+IsRollAnswer old new payload (Ok value) = ¬ IsRollFull old payload × IsRolled old new (need_of payload)
 IsRollAnswer old new payload (Err (ManifestFull need room)) =
     IsRollFull old payload × (need ≡ need_of payload) × (room ≡ room_of_half old.layout) × (new ≡ old)
 IsRollAnswer old new payload (Err Device) = ¬ IsRollFull old payload × (new ≡ old)
@@ -59,16 +60,22 @@ WriteReports g old new (Ok value) = g.faults new ≡ g.faults old
 WriteReports g old new (Err (ManifestFull need room)) = new ≡ old
 WriteReports g old new (Err Device) = Rose (g.faults old) (g.faults new)
 
--- the image has one of these
-abbrev pub OldOrNew : Layout → Metadata → Metadata → List ℕ → Type 0
-OldOrNew layout old new image = IsMetadata layout image old ⊎ IsMetadata layout image new
-
 -- nothing is pending in either half
 abbrev pub HalvesApart : Layout → List (ℕ × ℕ) → Type 0
 HalvesApart layout ranges = IsApart (half_of layout 0) ranges × IsApart (half_of layout 1) ranges
 
--- A crash leaves what it might have left before the call, or the old or the new metadata, and then all but this half is as a
--- crash before the call might have left it.
-abbrev pub LeavesMetadata : {D : Type 0} → Ghosts D → Layout → ℕ → D → D → Metadata → Metadata → Type 0
-LeavesMetadata g layout half old new before after = LeavesOnly g old new
-    (λ image. IsWithin (half_of layout half) (MayLeave g old) image × OldOrNew layout before after image)
+-- The image holds the old metadata where they were, or the new ones with this batch behind the others.
+abbrev pub OldOrLogged : Manifest → List ℕ → Metadata → Metadata → List ℕ → Type 0
+OldOrLogged m payload before after image =
+    HoldsAt m image before ⊎ Holds m.layout m.half m.sequence (m.tail.place + need_of payload) image after
+
+-- The image holds the old metadata where they were, or the new ones with this batch alone in the other half.
+abbrev pub OldOrRolled : Manifest → List ℕ → Metadata → Metadata → List ℕ → Type 0
+OldOrRolled m payload before after image =
+    HoldsAt m image before ⊎ Holds m.layout (1 - m.half) (m.sequence + 1) (head_size - 1 + need_of payload) image after
+
+-- A crash leaves what it might have left before the call, or an image with Q, and then all but this half is as a crash
+-- before the call might have left it.
+abbrev pub LeavesHalf : {D : Type 0} → Ghosts D → Layout → ℕ → D → D → (List ℕ → Type 0) → Type 0
+LeavesHalf g layout half old new Q = LeavesOnly g old new
+    (λ image. IsWithin (half_of layout half) (MayLeave g old) image × Q image)

@@ -1,16 +1,7 @@
 //! What a manifest says: the state of a device's stores.
-ghost use Rattle.std.specs.Prelude.{◌+◌, ◌≤◌, ◌^◌};
+ghost use Rattle.std.specs.Prelude.{◌≤◌, ◌^◌};
 
-use hse_rows::{Mode, StoreId, StoreName};
-
-/// Numbers of creations and drops that follow one another: the first of them, and how many.
-#[derive(Clone, Copy, Debug, PartialEq, Eq)]
-pub struct TakenRun {
-    pub first: u64,
-    pub count: u32,
-    ghost some: { 1 ≤ count },
-    ghost fits: { first + count ≤ 2 ^ 62 + 1 },
-}
+use hse_rows::{Mode, StoreId, StoreName, TakenRun};
 
 /// A live store.
 #[derive(Drop)]
@@ -30,4 +21,5 @@ pub struct Base {
     pub first: u64,
     pub taken: Vec<TakenRun>,
     pub stores: Vec<BaseStore>,
+    ghost small: { horizon ≤ 2 ^ 62 },
 }

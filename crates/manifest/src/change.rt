@@ -1,11 +1,13 @@
 //! What a creation and a drop make of a base.
 ghost use Rattle.std.specs.Prelude.{◌≡◌, ◌≤◌, ◌^◌, ◌++◌, ◌∷◌, [], true, OnOk};
 ghost use Rattle.manifest.specs.Metadata.{is_joined, is_live, last_known, may_be_number, with_taken, with_store, without, without_store};
-ghost use Rattle.manifest.specs.Views.{metadata_as, run_as, runs_as, store_as, stores_as};
+ghost use Rattle.manifest.specs.Views.{metadata_as, store_as, stores_as};
+ghost use Rattle.hse_rows.specs.machine.TakenRuns.{run_as, runs_as};
 
 use crate::runs::GREATEST_NUMBER;
-use crate::{Base, BaseStore, TakenRun};
+use crate::{Base, BaseStore};
 use hse_io::NoMemory;
+use hse_rows::TakenRun;
 
 /// The greatest number that the base knows of.
 fn last_number(base: &Base) -> u64

@@ -4,14 +4,15 @@ ghost use Rattle.std.specs.List.{flat_map};
 ghost use Rattle.byteorder.specs.Endian.{big_bytes};
 ghost use Rattle.manifest.specs.Entries.{entry_as};
 ghost use Rattle.manifest.specs.Text.{base_kind, base_text, entry_text, mode_code, runs_text, store_text};
-ghost use Rattle.manifest.specs.Views.{described_as, metadata_as, runs_as, store_as, stores_as};
+ghost use Rattle.manifest.specs.Views.{described_as, metadata_as, store_as, stores_as};
+ghost use Rattle.hse_rows.specs.machine.TakenRuns.{runs_as};
 
 use crate::entries::{BASE, CREATE, DROP};
-use crate::{Base, BaseStore, Entry, TakenRun};
+use crate::{Base, BaseStore, Entry};
 use gate_log::Batch;
 use hse_fields::{put_bytes, put_u8, put_u32, put_u64};
 use hse_io::NoMemory;
-use hse_rows::{Mode, StoreName};
+use hse_rows::{Mode, StoreName, TakenRun};
 use std::alloc::Global;
 
 /// Puts the low four bytes of a number behind the others.
@@ -148,7 +149,7 @@ fn put_entry(into: &mut Vec<u8>, entry: &Entry) -> Result<(), NoMemory>
 
 /// The batch of an entry.
 ///
-/// The condition: the entry has fewer than 2^32 bytes.
+/// The condition: the entry has fewer than 2^32 bytes (`Entry::is_short`).
 pub fn encode_entry(alloc: Global, entry: &Entry) -> Result<Batch, NoMemory>
     requires { length (entry_text (entry_as entry.now)) < 2 ^ 32 }
     ensures { IfOk result (λ batch. batch ≡ entry_text (entry_as entry.now)) }

@@ -4,10 +4,7 @@ ghost use Rattle.manifest.specs.Half.{candidate, greater, head_of, head_fits, in
 ghost use Rattle.manifest.specs.HeadViews.{head_as};
 
 use byteorder::{BigEndian, ByteOrder};
-use gate_log::FIRST_GATE;
-
-/// An open gate.
-const OPEN_GATE: u8 = 79;
+use gate_log::{FIRST_GATE, OPEN_GATE};
 
 /// The greatest sequence of a half.
 pub(crate) const GREATEST_SEQUENCE: u64 = 4_611_686_018_427_387_904;

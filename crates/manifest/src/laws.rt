@@ -1,22 +1,33 @@
 //! Laws of the manifest. These functions do nothing; their contracts are the laws.
-ghost use Rattle.std.specs.Prelude.{◌≡◌, ℕ, List, Option, Some, Ok};
+ghost use Rattle.std.specs.Prelude.{◌≡◌, ◌≤◌, ℕ, List, [], ◌∷◌, ◌++◌, length, map, Option, Some, Ok};
 ghost use Rattle.device_layout.specs.declared.layout.Layout.{Layout as a_layout};
-ghost use Rattle.manifest.specs.Half.{IsMetadata, IsRefused};
+ghost use Rattle.device_layout.specs.Layouts.{IsGood, size_of_device};
+ghost use Rattle.hse_fields.specs.laws.Fields.{IsBytes};
+ghost use Rattle.hse_rows.specs.machine.ManifestRoom.{creation_bytes, drop_bytes, base_bytes};
+ghost use Rattle.hse_rows.specs.machine.TakenRuns.{runs_of};
+ghost use Rattle.hse_rows.specs.states.State.{Store};
+ghost use Rattle.manifest.specs.Half.{HasReading, Holds, IsMetadata, IsRefused};
 ghost use Rattle.manifest.specs.MayCome.{MayCome, after};
-ghost use Rattle.manifest.specs.Metadata.{Metadata};
+ghost use Rattle.manifest.specs.Machine.{live_of};
+ghost use Rattle.manifest.specs.Metadata.{LiveStore, Metadata, with_taken};
 ghost use Rattle.manifest.specs.Reading.{payload_of};
-ghost use Rattle.manifest.specs.Text.{Entry, entry_text};
+ghost use Rattle.manifest.specs.Text.{Entry, base_text, create_text, drop_text, entry_text};
 
-/// An image has one manifest: it says one thing, or is refused in one half at one place, and never
-/// both.
+/// An image has one manifest: it says one thing, in one half with one sequence and up to one place,
+/// or is refused in one half at one place, and never both. An image that is as large as its layout
+/// says has one.
 pub fn manifests_have_one_reading()
-    ensures metadata { (layout : a_layout) (image : List ℕ) (m n : Metadata)
-        → IsMetadata layout image m → IsMetadata layout image n → m ≡ n }
+    ensures held { (layout : a_layout) (image : List ℕ) (half other sequence next place at : ℕ)
+        (m n : Metadata) → Holds layout half sequence place image m
+        → Holds layout other next at image n
+        → (half ≡ other) × (sequence ≡ next) × (place ≡ at) × (m ≡ n) }
     ensures refused { (layout : a_layout) (image : List ℕ) (half place other at : ℕ)
         → IsRefused layout image half place → IsRefused layout image other at
         → (half ≡ other) × (place ≡ at) }
     ensures apart { (layout : a_layout) (image : List ℕ) (m : Metadata) (half place : ℕ)
         → IsMetadata layout image m → IsRefused layout image half place → ⊥ }
+    ensures each { (layout : a_layout) (image : List ℕ) → IsGood layout
+        → size_of_device layout ≤ length image → IsBytes image → HasReading layout image }
 {}
 
 /// What is spelled of an entry that may come is read as that entry. So its batch may be logged, or
@@ -25,4 +36,17 @@ pub fn entries_are_read()
     ensures { (most : ℕ) (before : Option Metadata) (entry : Entry) (m : Metadata)
         → MayCome most before entry → after before entry ≡ Some m
         → payload_of most before (entry_text entry) ≡ Ok m }
+{}
+
+/// Entries are as long as the machine counts them, and a creation's or a drop's number joins the
+/// runs as it joins the machine's taken numbers.
+pub fn entries_are_as_the_machine_counts()
+    ensures creation { (store : LiveStore)
+        → length (create_text store) ≡ creation_bytes store.name }
+    ensures drop { (number id : ℕ) → length (drop_text number id) ≡ drop_bytes }
+    ensures base { (m : Metadata) (taken : List ℕ) (stores : List Store)
+        → m.taken ≡ runs_of taken → m.stores ≡ map live_of stores
+        → length (base_text m) ≡ base_bytes taken stores [] }
+    ensures taken { (taken : List ℕ) (number : ℕ)
+        → with_taken (runs_of taken) number ≡ runs_of (taken ++ number ∷ []) }
 {}

@@ -1,10 +1,11 @@
 //! Reads the taken numbers of a base.
 ghost use Rattle.std.specs.Prelude.{◌≡◌, ◌≤◌, ◌^◌, true, IfOk};
 ghost use Rattle.manifest.specs.Reading.{run_of, runs_of};
-ghost use Rattle.manifest.specs.Views.{Gives, run_as, runs_as};
+ghost use Rattle.manifest.specs.Views.{Gives};
+ghost use Rattle.hse_rows.specs.machine.TakenRuns.{run_as, runs_as};
 
-use crate::TakenRun;
 use hse_fields::{Refusal, split_u32};
+use hse_rows::TakenRun;
 use std::alloc::Global;
 
 /// The greatest number of a history.

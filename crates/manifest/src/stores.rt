@@ -2,12 +2,13 @@
 ghost use Rattle.std.specs.Prelude.{◌≡◌, ◌≤◌, ◌<◌, ◌+◌, ◌^◌, length};
 ghost use Rattle.manifest.specs.Metadata.{is_taken, last_id};
 ghost use Rattle.manifest.specs.Reading.{may_be_next, store_of, stores_of};
-ghost use Rattle.manifest.specs.Views.{Gives, runs_as, store_as, stores_as};
+ghost use Rattle.manifest.specs.Views.{Gives, store_as, stores_as};
+ghost use Rattle.hse_rows.specs.machine.TakenRuns.{runs_as};
 
+use crate::BaseStore;
 use crate::describe::described;
-use crate::{BaseStore, TakenRun};
 use hse_fields::{Refusal, split_u32, split_u64};
-use hse_rows::StoreId;
+use hse_rows::{StoreId, TakenRun};
 use std::alloc::Global;
 
 /// What is known before the stores of a base: how many may be live, the horizon and the taken

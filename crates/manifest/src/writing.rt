@@ -7,7 +7,7 @@ ghost use Rattle.device_layout.specs.Layouts.{half_of, size_of_device};
 ghost use Rattle.manifest.specs.Loading.{HoldsAt};
 ghost use Rattle.manifest.specs.Metadata.{Metadata};
 ghost use Rattle.manifest.specs.Reading.{payload_of};
-ghost use Rattle.manifest.specs.Writing.{room_in, IsLogAnswer, IsRollAnswer, WriteReports, HalvesApart, LeavesMetadata};
+ghost use Rattle.manifest.specs.Writing.{room_in, IsLogAnswer, IsRollAnswer, WriteReports, HalvesApart, LeavesHalf, OldOrLogged, OldOrRolled};
 
 use crate::heads::{GREATEST_SEQUENCE, HEAD_SIZE};
 use crate::{Manifest, ManifestFault};
@@ -30,9 +30,10 @@ impl Manifest {
     }
 
     /// Adds a creation or a drop to the half in force. It takes no memory. Whenever the device
-    /// stops, the manifest says what it said before or what it says after the entry, and nothing
-    /// else of the device changes; after `Ok` nothing is pending. `ManifestFull` comes before any
-    /// device call; after `Device` the manifest says either, and this place stays.
+    /// stops, the manifest says what it said before, at this place, or what it says after the
+    /// entry, with the batch behind it, and nothing else of the device changes; after `Ok` nothing
+    /// is pending. `ManifestFull` comes before any device call; after `Device` the manifest says
+    /// either, and this place stays.
     ///
     /// The conditions: the device is as large as its layout says; this is the place of its
     /// manifest, the batch is an entry that may come next, and nothing is pending in the halves.
@@ -54,7 +55,8 @@ impl Manifest {
             → HoldsAt self.old (D.seen disk.old) before
             → payload_of self.old.layout.stores (Some before) batch.now ≡ Ok after
             → HalvesApart self.old.layout (D.pending disk.old)
-            → LeavesMetadata D.Device self.old.layout self.old.half disk.old disk.new before after }
+            → LeavesHalf D.Device self.old.layout self.old.half disk.old disk.new
+            (OldOrLogged self.old batch.now before after) }
     {
         let half = self.layout.half(self.half);
         let mut tail = self.tail;
@@ -64,9 +66,9 @@ impl Manifest {
     }
 
     /// Starts the other half with the next sequence and this base. It takes no memory. Whenever the
-    /// device stops, the manifest says what it said before or what the base says, and nothing else
-    /// of the device changes; after `Ok` nothing is pending. `ManifestFull` comes before any device
-    /// call, exactly where a new half has no room for the base or no greater sequence is left.
+    /// device stops, the manifest says what it said before, at this place, or what the base says,
+    /// alone in the other half with the next sequence, and nothing else of the device changes;
+    /// after `Ok` nothing is pending. `ManifestFull` comes before any device call, exactly where a new half has no room for the base or no greater sequence is left.
     /// After `Device` the manifest says either, and this place stays.
     ///
     /// The conditions: the device is as large as its layout says; this is the place of its
@@ -89,8 +91,8 @@ impl Manifest {
             → HoldsAt self.old (D.seen disk.old) before
             → payload_of self.old.layout.stores None base.now ≡ Ok after
             → HalvesApart self.old.layout (D.pending disk.old)
-            → LeavesMetadata D.Device self.old.layout (1 - self.old.half) disk.old disk.new
-            before after }
+            → LeavesHalf D.Device self.old.layout (1 - self.old.half) disk.old disk.new
+            (OldOrRolled self.old base.now before after) }
     {
         let need = base.need();
         let room = self.layout.manifest - HEAD_SIZE as u64;

@@ -9,7 +9,7 @@ use Rattle.gate_log.specs.laws.OneFront.{one_front}
 use Rattle.gate_log.specs.laws.OneReading.{one_gated}
 use Rattle.device_layout.specs.Layouts.{half_of}
 use Rattle.device_layout.specs.declared.layout.Layout.{Layout}
-use Rattle.manifest.specs.Half.{IsMetadata, IsRefused, entries_of, metadata_in, says_of}
+use Rattle.manifest.specs.Half.{Holds, IsMetadata, IsRefused, entries_of, metadata_in, says_of}
 use Rattle.manifest.specs.Metadata.{Metadata}
 use Rattle.hse_fields.specs.LogReading.{◌>>=◌}
 
@@ -28,13 +28,19 @@ not_both (Err f) x e first second = absurd cc
 some_is : {X : Type 0} (x y : X) → Some x ≡ Some y → x ≡ y
 some_is x y is = cc
 
-pub one_metadata : (layout : Layout) (image : List ℕ) (m n : Metadata) → IsMetadata layout image m → IsMetadata layout image n → m ≡ n
-one_metadata layout image m n first second =
-    let half = same_ok _ first.half second.half first.holds.in_force second.holds.in_force in
-    let gated = subst (λ (h : ℕ). Gated (region_of (half_of layout h) image) second.sequence second.holds.payloads) (sym half) second.holds.gated in
-    let same = one_gated (region_of (half_of layout first.half) image) first.sequence second.sequence first.holds.payloads second.holds.payloads first.holds.gated gated in
-    some_is m n (same_ok (entries_of layout.stores None first_gate first.holds.payloads) (Some m) (Some n) first.holds.says
-    (ap (entries_of layout.stores None first_gate) same.1 ∙ second.holds.says))
+-- an image holds one thing at one place
+pub one_held : (layout : Layout) (image : List ℕ) (half other sequence next place at : ℕ) (m n : Metadata) → Holds layout half sequence place image m
+    → Holds layout other next at image n → (half ≡ other) × (sequence ≡ next) × (place ≡ at) × (m ≡ n)
+one_held layout image half other sequence next place at m n first second =
+    let same_half = same_ok _ half other first.in_force second.in_force in
+    let gated = subst (λ (h : ℕ). Gated (region_of (half_of layout h) image) next second.payloads) (sym same_half) second.gated in
+    let same = one_gated (region_of (half_of layout half) image) sequence next first.payloads second.payloads first.gated gated in (
+      same_half,
+      same.0,
+      first.tail ∙ ap tail_of same.1 ∙ sym second.tail,
+      some_is m n (same_ok (entries_of layout.stores None first_gate first.payloads) (Some m) (Some n) first.says
+          (ap (entries_of layout.stores None first_gate) same.1 ∙ second.says)),
+    )
 
 pair_is : (a b x y : ℕ) → ◌≡◌ {A = ℕ × ℕ} (a, b) (x, y) → (a ≡ x) × (b ≡ y)
 pair_is a b x y is = (ap (λ (p : ℕ × ℕ). p.0) is, ap (λ (p : ℕ × ℕ). p.1) is)

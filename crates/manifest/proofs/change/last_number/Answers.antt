@@ -1,8 +1,8 @@
 use Rattle.std.proofs.Common.{◌≡◌, ◌∙◌, ◌+◌, ◌-◌, List, subst, length, Some, None, arith}
 use Rattle.std.specs.Prelude.{slice_get}
 use Rattle.manifest.specs.Metadata.{last_of_run}
-use Rattle.manifest.specs.Views.{run_as}
-use Rattle.manifest.specs.declared.base.TakenRun.{TakenRun}
+use Rattle.hse_rows.specs.machine.TakenRuns.{run_as}
+use Rattle.hse_rows.specs.declared.taken_run.TakenRun.{TakenRun}
 use Rattle.manifest.proofs.StoreLemmas.{last_by_some, last_by_none}
 use Rattle.manifest.proofs.change.last_number.Goals as goal
 

@@ -3,7 +3,8 @@ use Rattle.std.specs.List.{flat_map}
 use Rattle.std.proofs.lemmas.Result.{on_ok_weaker}
 use Rattle.byteorder.specs.Endian.{big_bytes}
 use Rattle.manifest.specs.Text.{runs_text, store_text}
-use Rattle.manifest.specs.Views.{runs_as, stores_as}
+use Rattle.manifest.specs.Views.{stores_as}
+use Rattle.hse_rows.specs.machine.TakenRuns.{runs_as}
 use Rattle.manifest.proofs.encode.put_base.Goals as goal
 
 three : (into a b d x y z : List ℕ) → x ≡ into ++ a → y ≡ x ++ b → z ≡ y ++ d → z ≡ into ++ (a ++ (b ++ d))

@@ -1,6 +1,6 @@
 use Rattle.std.proofs.Common.{◌≡◌, ◌++◌, length}
 use Rattle.manifest.specs.Text.{runs_text}
-use Rattle.manifest.specs.Views.{runs_as}
+use Rattle.hse_rows.specs.machine.TakenRuns.{runs_as}
 use Rattle.manifest.proofs.encode.put_runs.Given as goal
 
 abbrev pub invariant-loop-rest : goal.invariant-loop-rest

@@ -3,7 +3,7 @@ use Rattle.std.proofs.lemmas.Result.{on_ok_weaker}
 use Rattle.std.proofs.lemmas.List.{length-map}
 use Rattle.byteorder.specs.Endian.{big_bytes}
 use Rattle.manifest.specs.Text.{runs_text}
-use Rattle.manifest.specs.Views.{run_as, runs_as}
+use Rattle.hse_rows.specs.machine.TakenRuns.{run_as, runs_as}
 use Rattle.manifest.proofs.encode.put_taken.Goals as goal
 
 pub returns : goal.returns

@@ -2,7 +2,7 @@ use Rattle.std.proofs.Common.{◌≡◌, ◌∙◌, ◌+◌, ◌-◌, ◌++◌, 
 use Rattle.std.proofs.lemmas.Result.{err_from_is_err_and}
 use Rattle.std.proofs.lemmas.List.{map_push}
 use Rattle.manifest.specs.Reading.{RunsRead, many, run_step, no_runs}
-use Rattle.manifest.specs.Views.{run_as, runs_as}
+use Rattle.hse_rows.specs.machine.TakenRuns.{run_as, runs_as}
 use Rattle.manifest.proofs.ManyLemmas.{goes_on, stops, is_done}
 use Rattle.manifest.proofs.RunLemmas.{run_more, run_refused, runs_refused}
 use Rattle.manifest.proofs.runs.runs_behind.Goals as goal

@@ -1,6 +1,6 @@
 use Rattle.std.proofs.Common.{◌≡◌, ◌≤◌, ◌^◌}
 use Rattle.manifest.specs.Reading.{many, run_step, no_runs}
-use Rattle.manifest.specs.Views.{runs_as}
+use Rattle.hse_rows.specs.machine.TakenRuns.{runs_as}
 use Rattle.manifest.proofs.runs.runs_behind.Given as goal
 
 abbrev pub invariant-loop-left : goal.invariant-loop-left

@@ -1,6 +1,6 @@
-use Rattle.std.proofs.Common.{◌≡◌, ◌∷◌, [], ◌+◌, ◌-◌, ◌≤◌, ◌<◌, ◌^◌, ℕ, sym, subst, arith}
+use Rattle.std.proofs.Common.{◌≡◌, [], ◌+◌, ◌-◌, ◌≤◌, ◌<◌, ◌^◌, ℕ, sym, subst, arith}
 use Rattle.media_disk.specs.laws.Leaves.{leaves_more, leaves_joined}
-use Rattle.gate_log.specs.Places.{IsApart, tail_of}
+use Rattle.gate_log.specs.Places.{IsApart, need_of, tail_of}
 use Rattle.gate_log.specs.laws.Ranges.{torn_twice}
 use Rattle.gate_log.specs.laws.Regions.{other_region}
 use Rattle.device_layout.specs.Layouts.{half_of}
@@ -17,7 +17,7 @@ returns-in_default-clause-crash g c = λ told before after held read apart.
     let crash = rw c.half-region.ensures at (c.start.ensures.crash told) in
     leaves_more g.D.Device c.args.disk.now c.start.new.disk _ _
     (crash (half_apart m.layout m.half m.one (g.D.Device.pending c.args.disk.now) apart).1)
-    (start_crash m.layout m.half m.sequence m.tail.place m.one size small (g.D.Device.seen c.args.disk.now) before held (g.D.Device.pending c.args.disk.now) after apart)
+    (start_crash m.layout m.half m.sequence m.tail.place m.one size small (g.D.Device.seen c.args.disk.now) before held (g.D.Device.pending c.args.disk.now) c.args.base.now after apart)
 
 pub returns-in_err-append-clause-crash : goal.returns-in_err-append-clause-crash
 returns-in_err-append-clause-crash g c = λ told before after held read apart.
@@ -33,7 +33,7 @@ returns-in_err-append-clause-crash g c = λ told before after held read apart.
     leaves_joined g.D.Device c.args.disk.now c.start.new.disk c.append.new.disk _ c.start.ensures.calls.forward
     (leaves_more g.D.Device c.args.disk.now c.start.new.disk _ _
     (crash (half_apart m.layout m.half m.one (g.D.Device.pending c.args.disk.now) apart).1)
-    (start_crash m.layout m.half m.sequence m.tail.place m.one size small (g.D.Device.seen c.args.disk.now) before held (g.D.Device.pending c.args.disk.now) after apart))
+    (start_crash m.layout m.half m.sequence m.tail.place m.one size small (g.D.Device.seen c.args.disk.now) before held (g.D.Device.pending c.args.disk.now) c.args.base.now after apart))
     (leaves_more g.D.Device c.start.new.disk c.append.new.disk _ _
     (second started.gated (subst (IsApart (half_of m.layout (1 - m.half))) (sym none) tt))
     (base_crash m.layout m.half m.sequence m.tail.place m.one size small (g.D.Device.seen c.args.disk.now) before held (g.D.Device.pending c.args.disk.now)
@@ -52,7 +52,7 @@ returns-clause-rolled g c = λ told before after held read.
     (apart_back m.layout m.half m.one) torn in
     let tail : c.in-Ok.tail.place ≡ tail_of [] = c.in-Ok.ensures.tail in
     let written = (rw c.half-region.ensures at (c.in_ok-append.ensures.appended told (m.sequence + 1) [] tail)) started.gated in
-    let place : tail_of (c.args.base.now ∷ []) ≡ c.append.new.tail.place = omega (arith, tail, c.in_ok-append.ensures.answer.0) in
+    let place : 10 - 1 + need_of c.args.base.now ≡ c.append.new.tail.place = omega (arith, tail, c.in_ok-append.ensures.answer.0) in
     subst (λ (p : ℕ). Holds m.layout (1 - m.half) (m.sequence + 1) p (g.D.Device.seen c.append.new.disk) after) place
     (new_holds m.layout m.half m.sequence m.tail.place m.one size small (g.D.Device.seen c.args.disk.now) before held
     (g.D.Device.seen c.append.new.disk) c.args.base.now after same written.gated read)
@@ -71,7 +71,7 @@ returns-clause-crash g c = λ told before after held read apart.
     leaves_joined g.D.Device c.args.disk.now c.start.new.disk c.append.new.disk _ c.start.ensures.calls.forward
     (leaves_more g.D.Device c.args.disk.now c.start.new.disk _ _
     (crash (half_apart m.layout m.half m.one (g.D.Device.pending c.args.disk.now) apart).1)
-    (start_crash m.layout m.half m.sequence m.tail.place m.one size small (g.D.Device.seen c.args.disk.now) before held (g.D.Device.pending c.args.disk.now) after apart))
+    (start_crash m.layout m.half m.sequence m.tail.place m.one size small (g.D.Device.seen c.args.disk.now) before held (g.D.Device.pending c.args.disk.now) c.args.base.now after apart))
     (leaves_more g.D.Device c.start.new.disk c.append.new.disk _ _
     (second started.gated (subst (IsApart (half_of m.layout (1 - m.half))) (sym none) tt))
     (base_crash m.layout m.half m.sequence m.tail.place m.one size small (g.D.Device.seen c.args.disk.now) before held (g.D.Device.pending c.args.disk.now)

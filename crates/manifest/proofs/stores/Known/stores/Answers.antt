@@ -2,7 +2,8 @@ use Rattle.std.proofs.Common.{◌≡◌, ◌∙◌, ◌++◌, ◌∷◌, [], ap,
 use Rattle.std.proofs.lemmas.Result.{err_from_is_err_and}
 use Rattle.std.proofs.lemmas.List.{map_push}
 use Rattle.manifest.specs.Reading.{store_step, stores_of}
-use Rattle.manifest.specs.Views.{runs_as, store_as, stores_as}
+use Rattle.manifest.specs.Views.{store_as, stores_as}
+use Rattle.hse_rows.specs.machine.TakenRuns.{runs_as}
 use Rattle.manifest.proofs.ManyLemmas.{goes_on, stops, is_done}
 use Rattle.manifest.proofs.StoreLemmas.{store_more, store_refused}
 use Rattle.manifest.proofs.stores.Known.stores.Goals as goal

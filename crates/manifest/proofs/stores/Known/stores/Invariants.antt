@@ -1,6 +1,7 @@
 use Rattle.std.proofs.Common.{◌≡◌}
 use Rattle.manifest.specs.Reading.{many, store_step, stores_of}
-use Rattle.manifest.specs.Views.{runs_as, stores_as}
+use Rattle.manifest.specs.Views.{stores_as}
+use Rattle.hse_rows.specs.machine.TakenRuns.{runs_as}
 use Rattle.manifest.proofs.stores.Known.stores.Given as goal
 
 abbrev pub invariant-loop-left : goal.invariant-loop-left

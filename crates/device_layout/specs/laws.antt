@@ -1,0 +1,2 @@
+-- Laws of the superblock, for the crates above.
+pub mod Superblocks

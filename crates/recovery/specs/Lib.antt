@@ -1,0 +1,5 @@
+pub mod Image
+pub mod Stored
+pub mod Refused
+pub mod Answers
+pub mod Keeps
