@@ -1,7 +1,7 @@
 //! The gates of a region.
 
 /// An open gate. Every other byte is a closed one.
-pub(crate) const OPEN_GATE: u8 = 79;
+pub const OPEN_GATE: u8 = 79;
 
 /// An open gate, as it is written.
 pub(crate) const OPEN: &[u8] = &[OPEN_GATE];

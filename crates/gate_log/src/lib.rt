@@ -18,6 +18,7 @@ pub use appending::{AppendFault, append};
 pub use batch::Batch;
 pub use found::{Found, Payload, RegionFault};
 pub use front::{End, Front, FrontFault};
+pub use gate::OPEN_GATE;
 pub use laws::regions_have_one_reading;
 pub use reading::{read_front, read_region};
 pub use region::{FIRST_GATE, FRAME_SIZE, LEAST_SIZE, Region, Tail};
