@@ -1,6 +1,6 @@
 //! Sets of blocks, opened, searched, and changed at fields.
 use hse_rows::{ChangeRef, RowSet};
-use kvset::{Block, Kvset, SetFault, ValuePlace, open_set};
+use kvset::{Block, Kvset, SetFault, ValuePlace, open_over, open_set};
 use std::alloc::Global;
 use std::process::Abort;
 use std::test::Fail;
@@ -13,6 +13,8 @@ const FIRST: u32 = 3;
 const SECOND: u32 = 5;
 
 const VALUES: u32 = 9;
+
+const OTHERS: u32 = 11;
 
 /// The prefixes `a`, of number 5, and `bc`, of number 7.
 static PREFIX_BLOCK: [u8; 37] = [
@@ -117,6 +119,14 @@ fn each_field_is_refused_in_its_slot(rt: HostRuntime) -> Result<(), Fail> {
     Ok(())
 }
 
+/// The value of a key's put.
+fn value_of<'s>(set: &'s Kvset, key: &[u8]) -> Option<&'s [u8]> {
+    match set.find(key)?.change {
+        ChangeRef::Put(_, value) => Some(value),
+        _ => None,
+    }
+}
+
 /// No change.
 const WHOLE: Change = Change {
     slot: 0,
@@ -176,6 +186,61 @@ fn a_put_has_the_value_at_its_place(rt: HostRuntime) -> Result<(), Fail> {
         assert!(&rt; set.row(4).change == ChangeRef::Put(b"f", b""));
         assert!(&rt; set.value_place(4) == Some(place));
         assert!(&rt; set.value_place(5).is_none());
+    }
+    Ok(())
+}
+
+/// A set of no row, whose first value is `w`.
+fn others(alloc: Global) -> Result<Result<Kvset, SetFault>, Fail> {
+    let change = Change {
+        slot: OTHERS,
+        at: 20,
+        byte: b'w',
+    };
+    let values = block(alloc, OTHERS, &VALUE_BLOCK, 25, change)?;
+    Ok(open_set(alloc, Vec::new(alloc), Vec::new(alloc), values))
+}
+
+/// The first block of keys over the values of both sets; the value of its put is in this block of
+/// theirs.
+fn over(alloc: Global, byte: u8) -> Result<Result<Kvset, SetFault>, Fail> {
+    let Ok(newer) = opened(alloc, WHOLE)? else {
+        return Ok(Err(SetFault::NoMemory));
+    };
+    let Ok(older) = others(alloc)? else {
+        return Ok(Err(SetFault::NoMemory));
+    };
+    let change = Change {
+        slot: FIRST,
+        at: 33,
+        byte,
+    };
+    let prefixes = block(alloc, PREFIXES, &PREFIX_BLOCK, 37, change)?;
+    let keys = block(alloc, FIRST, &FIRST_KEYS, 4_116, change)?;
+    Ok(open_over(alloc, prefixes, keys, &[&newer, &older]))
+}
+
+/// A block of values, the value of the put there, and where the slot of its key is damaged.
+static OVER: [(u8, Option<&[u8]>, u64); 3] = [
+    (0, Some(b"v"), 0),
+    (1, Some(b"w"), 0),
+    (2, None, 30),
+];
+
+#[test]
+fn values_of_open_sets_are_shared(rt: HostRuntime) -> Result<(), Fail> {
+    for (byte, value, place) in &OVER {
+        match over(rt.alloc(), *byte)? {
+            Ok(set) => {
+                assert!(&rt; set.slots() == [PREFIXES, FIRST, VALUES, OTHERS].as_slice());
+                assert!(&rt; set.shape() == (1, 1, 2));
+                assert!(&rt; value_of(&set, b"b") == *value);
+            }
+            Err(fault) => {
+                assert!(&rt; value.is_none());
+                assert!(&rt; fault == SetFault::Damaged(FIRST, *place));
+            }
+        }
     }
     Ok(())
 }

@@ -1,5 +1,5 @@
 -- What reading a set came to.
-use Rattle.std.proofs.Common.{◌≡◌, ◌∙◌, true, false, Bool, ℕ, suc, ◌+◌, List, [], ◌∷◌, ◌++◌, length, map, None, Result, Ok, Err, refl, sym, ap}
+use Rattle.std.proofs.Common.{◌≡◌, ◌∙◌, true, false, Bool, ℕ, suc, ◌+◌, List, [], ◌∷◌, ◌++◌, length, map, None, Result, Ok, Err, refl, sym, ap, arith, length-append}
 use Rattle.std.specs.List.{flat_map}
 use Rattle.hse_fields.specs.BlockText.{header_size, KeyEntry, PrefixEntry, key_text}
 use Rattle.hse_fields.specs.BlockReading.{value_block_of}
@@ -13,6 +13,10 @@ use Rattle.kvset.specs.declared.block.SetFault.TheVariants.{Damaged, NoMemory}
 use Rattle.kvset.specs.declared.keys.KeyPart.{KeyPart}
 use Rattle.kvset.specs.Keys.{all_keys, blocks_of, keys_in, part_slots}
 use Rattle.kvset.specs.Reading.{◌>>=◌, in_slot, Contents, met_by, met_in, pages_of, prefixes_of, set_over, slots_of, values_of, Refuses}
+use Rattle.std.specs.Arc.{arc_value}
+use Rattle.kvset.specs.declared.values.Values.{Values}
+use Rattle.kvset.specs.declared.values.Values.TheVariants.{Unread, Open}
+use Rattle.kvset.specs.Parts.{slots_given, values_given, AreSlotted}
 use Rattle.kvset.specs.Rows.{is_met, AreMet}
 use Rattle.kvset.proofs.ListLemmas.{map_long}
 
@@ -165,9 +169,23 @@ values_counted (b ∷ bs) values e =
         by (Ok others) is e = (others, ok_values (v ∷ others) values e, is)
         by (Err spot) is e = absurd cc
 
+pub slots_counted : {X : Type 0} (value : X → List (List ℕ)) (given : Values) (blocks : List X) → AreSlotted given → values_given given ≡ Ok (map value blocks)
+    → length (slots_given given) ≡ length blocks
+slots_counted value (Unread read) blocks slotted e =
+    map_long (λ (b : Block). b.slot) read.items ∙ sym (values_counted read.items (map value blocks) e) ∙ map_long value blocks
+slots_counted value (Open slots opened) blocks slotted e =
+    slotted ∙ sym (map_long arc_value opened.items) ∙ ap length (ok_values (map arc_value opened.items) (map value blocks) e) ∙ map_long value blocks
+
 pub parts_counted : (parts : List KeyPart) (blocks : List Block) → part_slots parts ≡ slots_of blocks → length parts ≡ length blocks
 parts_counted parts blocks e =
     sym (map_long (λ (p : KeyPart). p.slot) parts) ∙ ap length e ∙ map_long (λ (b : Block). b.slot) blocks
+
+pub slots_long : (ps ks : List Block) (more slots : List ℕ) (p k v : ℕ) → slots_of ps ++ (slots_of ks ++ more) ≡ slots → length ps ≡ p → k ≡ length ks → length more ≡ v
+    → length slots ≡ (p + k) + v
+slots_long ps ks more slots p k v are a b c =
+    let front = map_long (λ (block : Block). block.slot) ps in
+    let middle = map_long (λ (block : Block). block.slot) ks in
+    omega (arith, ap length are, length-append (slots_of ps) (slots_of ks ++ more), length-append (slots_of ks) more, front, middle, a, b, c)
 
 pub contents_are : (slots slots' : List ℕ) (p p' k k' v v' : ℕ) (prefixes : List Entry) (keys : List KeyEntry) (values : List (List (List ℕ)))
     → slots ≡ slots' → p ≡ p' → k ≡ k' → v ≡ v'

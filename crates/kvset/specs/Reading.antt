@@ -1,7 +1,8 @@
 -- Reading a set from its blocks: the prefix deletes, the keys, the values, then which values the keys name. A refusal is
 -- the slot and the place in it.
-use Rattle.std.specs.Prelude.{◌≡◌, ℕ, ◌+◌, ◌≤◌, ◌^◌, List, [], ◌∷◌, ◌++◌, length, map, Option, Some, None, Result, Ok, Err, if◌then◌else◌}
+use Rattle.std.specs.Prelude.{◌≡◌, ℕ, ◌+◌, ◌≤◌, ◌^◌, List, [], ◌∷◌, ◌++◌, length, map, drop, Option, Some, None, Result, Ok, Err, if◌then◌else◌}
 use Rattle.std.specs.List.{flat_map}
+use denote.Ref.{Bor}
 use Rattle.hse_fields.specs.BlockText.{header_size, KeyEntry, PrefixEntry}
 use Rattle.hse_fields.specs.BlockReading.{key_block_of, last_key, prefix_block_of, value_block_of}
 use Rattle.kblock.specs.Opened.{entries_of}
@@ -99,6 +100,17 @@ set_over prefix_blocks key_blocks value_slots read = do
 abbrev pub set_of : List Block → List Block → List Block → Result Contents (ℕ × ℕ)
 set_of prefix_blocks key_blocks value_blocks =
     set_over prefix_blocks key_blocks (slots_of value_blocks) (values_of value_blocks)
+
+-- the slots of a set's values, behind those of its prefix deletes and keys
+abbrev pub value_slots : Contents → List ℕ
+value_slots set = drop (set.shape.0 + set.shape.1) set.slots
+
+-- the slots and the values of these sets, block by block
+abbrev pub slots_over : List (Bor Contents) → List ℕ
+slots_over run = flat_map (λ (set : Bor Contents). value_slots set.now) run
+
+abbrev pub values_over : List (Bor Contents) → List (List (List ℕ))
+values_over run = flat_map (λ (set : Bor Contents). set.now.values) run
 
 -- a block whose keys stand behind the last one, before which there are so many
 pub record IsPart (last : Option (List ℕ)) (before : ℕ) (block : Block) (part : KeyPart) : Type 0 where

@@ -1,7 +1,7 @@
 //! A set of rows, lent from its blocks.
-ghost use Rattle.std.specs.Prelude.{◌≡◌, ◌<◌, length, Ok, IfOk, IfErr};
-ghost use Rattle.kvset.specs.Parts.{contents_rows};
-ghost use Rattle.kvset.specs.Reading.{set_of, Refuses};
+ghost use Rattle.std.specs.Prelude.{◌≡◌, ◌<◌, ◌+◌, length, Ok, IfOk, IfErr};
+ghost use Rattle.kvset.specs.Parts.{contents_rows, slots_given, values_given, AreSlotted};
+ghost use Rattle.kvset.specs.Reading.{set_of, set_over, slots_over, values_over, Refuses};
 ghost use Rattle.kvset.specs.Rows.{place_at};
 
 use crate::block::{Block, SetFault};
@@ -9,6 +9,7 @@ use crate::opening::parts_of;
 use crate::parts::{
     Parts, are_rows, covering, find_row, place_of, row_at, rows_len, value_place_at,
 };
+use crate::values::{Values, put_values};
 use hse_io::NoMemory;
 use hse_rows::{RowRef, RowSet, Shared};
 use kblock::ValuePlace;
@@ -35,10 +36,10 @@ impl Model for Kvset {
 }
 
 /// Opens a set by its blocks. `Damaged` has the slot and the place of the first field that is
-/// refused: block by block the prefix deletes, then the keys, then the values; then, key by key, the
-/// block of a value that no entry of that length begins at. Prefixes and keys ascend from block to
-/// block. What the set keeps beside its blocks is a list of its prefix deletes and a word or two for
-/// each block.
+/// refused: block by block the prefix deletes, then the keys, then the values; then, key by key,
+/// the block of a value that no entry of that length begins at. Prefixes and keys ascend from block
+/// to block. What the set keeps beside its blocks is a list of its prefix deletes and a word or two
+/// for each block.
 pub fn open_set(
     alloc: Global,
     prefixes: Vec<Block>,
@@ -48,10 +49,45 @@ pub fn open_set(
     ensures read { IfOk result (λ set. set_of prefixes.items keys.items values.items ≡ Ok set) }
     ensures refused { IfErr result (Refuses (set_of prefixes.items keys.items values.items)) }
 {
-    let parts = parts_of(alloc, prefixes, keys, values)?;
+    let parts = parts_of(alloc, prefixes, keys, Values::Unread(values))?;
     Ok(Kvset {
         parts: Arc::new(alloc, parts)?,
     })
+}
+
+/// Opens a set whose blocks of values are those of open sets, in the order of these sets. They are
+/// shared and not copied. `Damaged` has the slot and the place of the first field that is refused:
+/// block by block the prefix deletes, then the keys; then, key by key, the block of a value that no
+/// entry of that length begins at, counted over the blocks of all these sets.
+pub fn open_over(
+    alloc: Global,
+    prefixes: Vec<Block>,
+    keys: Vec<Block>,
+    run: &[&Kvset],
+) -> Result<Kvset, SetFault>
+    ensures read { IfOk result (λ set. set_over prefixes.items keys.items
+        (slots_over run.now) (Ok (values_over run.now)) ≡ Ok set) }
+    ensures refused { IfErr result (Refuses (set_over prefixes.items keys.items
+        (slots_over run.now) (Ok (values_over run.now)))) }
+{
+    let parts = parts_of(alloc, prefixes, keys, shared_values(alloc, run)?)?;
+    Ok(Kvset {
+        parts: Arc::new(alloc, parts)?,
+    })
+}
+
+/// The values of open sets, shared.
+fn shared_values(alloc: Global, run: &[&Kvset]) -> Result<Values, NoMemory>
+    ensures slotted { IfOk result AreSlotted }
+    ensures slots { IfOk result (λ values. slots_given values ≡ slots_over run.now) }
+    ensures values { IfOk result (λ values. values_given values ≡ Ok (values_over run.now)) }
+{
+    let mut slots = Vec::new(alloc);
+    let mut blocks = Vec::new(alloc);
+    for set in run {
+        put_values(&mut slots, &mut blocks, &set.parts)?;
+    }
+    Ok(Values::Open(slots, blocks))
 }
 
 impl Kvset {
@@ -64,7 +100,8 @@ impl Kvset {
 
     /// How many blocks of prefix deletes, of keys and of values there are.
     pub fn shape(&self) -> (u32, u32, u32)
-        ensures { (result.0, result.1, result.2) ≡ self.now.shape }
+        ensures counts { (result.0, result.1, result.2) ≡ self.now.shape }
+        ensures all { length self.now.slots ≡ (result.0 + result.1) + result.2 }
     {
         (
             self.parts.prefix_blocks,

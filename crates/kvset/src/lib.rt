@@ -8,7 +8,8 @@ mod meeting;
 mod opening;
 mod parts;
 mod reading;
+mod values;
 
 pub use block::{Block, SetFault};
 pub use kblock::ValuePlace;
-pub use kvset::{Kvset, open_set};
+pub use kvset::{Kvset, open_over, open_set};

@@ -1,5 +1,6 @@
 //! The rows of a set, lent from its blocks.
-ghost use Rattle.std.specs.Prelude.{◌≡◌, ◌<◌, ◌≤◌, ◌+◌, true, is_some, length, map, slice_get, Some};
+ghost use Rattle.std.specs.Prelude.{◌≡◌, ◌<◌, ◌≤◌, ◌+◌, true, is_some, length};
+ghost use Rattle.std.specs.Prelude.{map, slice_get, Some};
 ghost use Rattle.std.specs.List.{find};
 ghost use Rattle.std.specs.Arc.{arc_value};
 ghost use Rattle.hse_rows.specs.rows.Meaning.{own_at, covered_at};

@@ -17,3 +17,5 @@ pub mod FormLaws
 pub mod KeyForm
 pub mod PrefixForm
 pub mod SetForm
+pub mod RowsAgain
+pub mod OpenLaws

@@ -12,7 +12,8 @@ use Rattle.hse_rows.specs.rows.Packing.{header_bytes}
 use Rattle.set_build.proofs.FilledLemmas.{filled-flat}
 use Rattle.set_build.proofs.ValuePacking.{one-long}
 use Rattle.set_build.proofs.FormLaws.{FitsBlock}
-use Rattle.set_build.specs.Reading.{CanBeSaid, value_in_block, value_in_blocks}
+use Rattle.kvset.specs.Rows.{value_in, value_of}
+use Rattle.set_build.specs.Reading.{CanBeSaid}
 
 -- behind these values begins the next one
 past : (start : ℕ) (us ws : List (List ℕ)) (at len : ℕ) → at ≡ start + length (values_text us)
@@ -31,17 +32,17 @@ text-more [] v = omega (arith, ap length (append-nil (sized 4 v)))
 text-more (u ∷ us) v = omega (arith, text-more us v, length-append (sized 4 u) (values_text (us ++ v ∷ [])), length-append (sized 4 u) (values_text us))
 
 in-block : (all : List (List (List ℕ))) (number : ℕ) (us vs : List (List ℕ)) (at : ℕ) → slice_get all number ≡ Some (us ++ vs)
-    → at ≡ header_size + length (values_text us) → map (value_in_blocks all) (places_in number at vs) ≡ map (λ (v : List ℕ). Some v) vs
+    → at ≡ header_size + length (values_text us) → map (value_of all) (places_in number at vs) ≡ map (λ (v : List ℕ). Some v) vs
 in-block all number us [] at got is = refl
 in-block all number us (v ∷ vs) at got is =
-    let first : value_in_blocks all (value_place number at (length v)) ≡ Some v =
-    ap (λ (b : Option (List (List ℕ))). value_in_block b at (length v)) got
+    let first : value_of all (value_place number at (length v)) ≡ Some v =
+    ap (λ (b : Option (List (List ℕ))). value_in b (value_place number at (length v))) got
     ∙ past header_size us (v ∷ vs) at (length v) is
     ∙ here at v vs in
     let regrouped : us ++ v ∷ vs ≡ (us ++ v ∷ []) ++ vs = sym (append_assoc us (v ∷ []) vs) in
     let next : at + value_bytes v ≡ header_size + length (values_text (us ++ v ∷ [])) =
     omega (arith, is, text-more us v) in
-    ap (λ (o : Option (List ℕ)). o ∷ map (value_in_blocks all) (places_in number (at + value_bytes v) vs)) first
+    ap (λ (o : Option (List ℕ)). o ∷ map (value_of all) (places_in number (at + value_bytes v) vs)) first
     ∙ ap (λ (l : List (Option (List ℕ))). Some v ∷ l) (in-block all number (us ++ v ∷ []) vs (at + value_bytes v) (got ∙ ap (λ (l : List (List ℕ)). Some l) regrouped) next)
 
 got-behind : {X : Type 0} (front : List X) (x : X) (rest : List X) → slice_get (front ++ x ∷ rest) (length front) ≡ Some x
@@ -49,23 +50,23 @@ got-behind [] x rest = refl
 got-behind (f ∷ front) x rest = got-behind front x rest
 
 pub in-blocks : (front rest : List (List (List ℕ))) (number : ℕ) → number ≡ length front
-    → map (value_in_blocks (front ++ rest)) (places_of number rest) ≡ map (λ (v : List ℕ). Some v) (flat_map (λ (b : List (List ℕ)). b) rest)
+    → map (value_of (front ++ rest)) (places_of number rest) ≡ map (λ (v : List ℕ). Some v) (flat_map (λ (b : List (List ℕ)). b) rest)
 in-blocks front [] number is = refl
 in-blocks front (b ∷ rest) number is =
     let all = front ++ b ∷ rest in
-    let look = value_in_blocks all in
+    let look = value_of all in
     let regrouped : all ≡ (front ++ b ∷ []) ++ rest = sym (append_assoc front (b ∷ []) rest) in
     let got : slice_get all number ≡ Some b = ap (slice_get all) is ∙ got-behind front b rest in
     map-append look (places_in number header_size b) (places_of (suc number) rest)
     ∙ ap (λ (l : List (Option (List ℕ))). l ++ map look (places_of (suc number) rest)) (in-block all number [] b header_size got refl)
     ∙ ap (λ (l : List (Option (List ℕ))). map (λ (v : List ℕ). Some v) b ++ l) (
-    ap (λ (l : List (List (List ℕ))). map (value_in_blocks l) (places_of (suc number) rest)) regrouped
+    ap (λ (l : List (List (List ℕ))). map (value_of l) (places_of (suc number) rest)) regrouped
     ∙ in-blocks (front ++ b ∷ []) rest (suc number) (omega (arith, is, length-append front (b ∷ [])))
     )
     ∙ sym (map-append (λ (v : List ℕ). Some v) b (flat_map (λ (l : List (List ℕ)). l) rest))
 
 pub values-placed : (slot : ℕ) (values : List (List ℕ))
-    → map (value_in_blocks (value_blocks_of slot values)) (places_of 0 (value_blocks_of slot values)) ≡ map (λ (v : List ℕ). Some v) values
+    → map (value_of (value_blocks_of slot values)) (places_of 0 (value_blocks_of slot values)) ≡ map (λ (v : List ℕ). Some v) values
 values-placed slot values =
     in-blocks [] (value_blocks_of slot values) 0 refl
     ∙ ap (map (λ (v : List ℕ). Some v)) (filled-flat value_bytes (slot - header_bytes) values)

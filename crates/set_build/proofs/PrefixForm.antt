@@ -17,12 +17,13 @@ use Rattle.hse_fields.specs.BlockText.{PrefixEntry, prefix_text, prefixes_text}
 use Rattle.hse_fields.specs.BlockReading.{is_above}
 use Rattle.hse_fields.specs.BlockForm.{AreRising}
 use Rattle.set_build.specs.SetText.{prefix_bytes, in_prefix_block, prefix_entries, prefix_blocks_of}
-use Rattle.set_build.specs.Reading.{last_prefix, AreSetPrefixes}
+use Rattle.kvset.specs.Reading.{last_name}
+use Rattle.set_build.specs.Reading.{AreSetPrefixes}
 use Rattle.set_build.proofs.FilledLemmas.{filled-flat}
 use Rattle.set_build.proofs.FormLaws.{FitsBlock, filled-fits}
 use Rattle.set_build.proofs.RowPacking.{the_row, is_prefix_row}
 
-rising-split : (last : Option (List ℕ)) (xs ys : List PrefixEntry) → AreRising last (xs ++ ys) → AreRising last xs × AreRising (last_prefix last xs) ys
+rising-split : (last : Option (List ℕ)) (xs ys : List PrefixEntry) → AreRising last (xs ++ ys) → AreRising last xs × AreRising (last_name last xs) ys
 rising-split last [] ys rise = (tt, rise)
 rising-split last (x ∷ xs) ys rise =
     let rest = rising-split (Some x.prefix) xs ys rise.4 in
@@ -51,7 +52,7 @@ are-blocks slot last (b ∷ bs) large small rise fit =
         rising = split.0;
         within = omega (arith, text-long b, fit.0.fits, small, large);
       },
-      are-blocks slot (last_prefix last b) bs large small split.1 fit.1,
+      are-blocks slot (last_name last b) bs large small split.1 fit.1,
     )
 
 each-small : (slot : ℕ) (last : Option (List ℕ)) (es : List PrefixEntry) → 2 ^ 16 ≤ slot → AreRising last es

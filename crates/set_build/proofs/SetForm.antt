@@ -7,14 +7,15 @@ use Rattle.hse_fields.specs.declared.block.ValuePlace.{ValuePlace}
 use Rattle.hse_fields.specs.BlockForm.{AreValues}
 use Rattle.set_build.specs.SetText.{Pushed, value_of, values_of, value_blocks_of, places_of, all_places}
 use Rattle.set_build.specs.Packs.{puts_in}
-use Rattle.set_build.specs.Reading.{MayWrite, CanBeSaid, MayBeWritten, AreFormed, value_in_blocks}
+use Rattle.set_build.specs.Reading.{MayWrite, CanBeSaid, MayBeWritten, AreFormed}
+use Rattle.kvset.specs.Rows.{value_of as value_at_place}
 use Rattle.set_build.proofs.RowPacking.{places_by}
 use Rattle.set_build.proofs.FormLaws.{values-formed, values-fit}
 use Rattle.set_build.proofs.PlaceLaws.{values-placed, places-say}
 use Rattle.set_build.proofs.KeyForm.{set-keys}
 use Rattle.set_build.proofs.PrefixForm.{set-prefixes}
 
-abbrev blocks_by : ℕ → Bool → List (List ℕ) → List (List (List ℕ))
+abbrev pub blocks_by : ℕ → Bool → List (List ℕ) → List (List (List ℕ))
 blocks_by slot writes values = cond writes (value_blocks_of slot values) []
 
 formed-by : (slot : ℕ) (writes : Bool) (values : List (List ℕ)) → 2 ^ 16 ≤ slot → slot ≤ 2 ^ 25
@@ -25,7 +26,7 @@ formed-by slot false values large small may = tt
 -- as many places as values
 placed-count : (slot : ℕ) (values : List (List ℕ)) → length (places_of 0 (value_blocks_of slot values)) ≡ length values
 placed-count slot values =
-    sym (length-map (places_of 0 (value_blocks_of slot values)) (value_in_blocks (value_blocks_of slot values)))
+    sym (length-map (places_of 0 (value_blocks_of slot values)) (value_at_place (value_blocks_of slot values)))
     ∙ ap length (values-placed slot values)
     ∙ length-map values (λ (v : List ℕ). Some v)
 

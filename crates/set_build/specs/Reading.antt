@@ -1,29 +1,25 @@
 -- What is read again of the blocks of a set.
-use Rattle.std.specs.Prelude.{◌≡◌, ℕ, ◌+◌, ◌^◌, ◌<◌, ◌≤◌, true, false, List, [], ◌∷◌, length, Option, Some, None}
-use Rattle.std.specs.List.{AllByRecursion, flat_map, slice_get}
+use Rattle.std.specs.Prelude.{◌≡◌, ℕ, ◌+◌, ◌^◌, ◌<◌, ◌≤◌, true, false, List, [], ◌∷◌, ◌++◌, length, map, Option, Some, None, Result, Ok}
+use Rattle.std.specs.List.{AllByRecursion, flat_map}
 use Rattle.hse_fields.specs.declared.block.ValuePlace.{ValuePlace}
 use Rattle.hse_fields.specs.LogLimits.{value_limit}
-use Rattle.hse_fields.specs.BlockText.{KeyEntry, PrefixEntry, value_at}
+use Rattle.hse_fields.specs.BlockText.{KeyEntry, PrefixEntry}
 use Rattle.hse_fields.specs.BlockReading.{last_key}
 use Rattle.hse_fields.specs.BlockForm.{ArePrefixEntries, AreValues}
 use Rattle.kblock.specs.Form.{AreKeyPages, PlaceFits}
 use Rattle.hse_rows.specs.declared.row.Row.{Row}
 use Rattle.hse_rows.specs.rows.RowSets.{AreRows}
-use Rattle.set_build.specs.SetText.{Pushed, values_of, values_by_block, prefix_entries, prefix_blocks_of, key_entries, key_blocks_of}
+use Rattle.kvset.specs.declared.block.Block.{Block}
+use Rattle.kvset.specs.Reading.{last_name, Contents}
+use Rattle.kvset.specs.Rows.{value_of}
+use Rattle.kvset.specs.Parts.{contents_rows}
+use Rattle.set_build.specs.SetText.{Pushed, SetText, values_of, values_by_block, prefix_entries, prefix_blocks_of, key_entries, key_blocks_of}
 use Rattle.set_build.specs.Packs.{puts_in}
+use Rattle.set_build.specs.Builders.{Pairs}
 
 -- a value that may be written to blocks of such a size
 abbrev pub MayWrite : ℕ → List ℕ → Type 0
 MayWrite slot_size value = (length value ≤ value_limit) × (20 + length value ≤ slot_size)
-
--- the value at an offset of a block that may be there
-abbrev pub value_in_block : Option (List (List ℕ)) → ℕ → ℕ → Option (List ℕ)
-value_in_block None offset len = None
-value_in_block (Some values) offset len = value_at values offset len
-
--- the value at a place, in the blocks of a set
-abbrev pub value_in_blocks : List (List (List ℕ)) → ValuePlace → Option (List ℕ)
-value_in_blocks blocks place = value_in_block (slice_get blocks place.block) place.offset place.len
 
 -- the last key of a block's pages, or else the one before them
 abbrev pub last_in_block : Option (List ℕ) → List (List KeyEntry) → Option (List ℕ)
@@ -34,15 +30,10 @@ abbrev pub AreSetKeys : Option (List ℕ) → List (List (List KeyEntry)) → Ty
 AreSetKeys last [] = Unit {0}
 AreSetKeys last (pages ∷ blocks) = AreKeyPages last pages × AreSetKeys (last_in_block last pages) blocks
 
--- the last prefix of a block's entries, or else the one before them
-abbrev pub last_prefix : Option (List ℕ) → List PrefixEntry → Option (List ℕ)
-last_prefix last [] = last
-last_prefix last (entry ∷ entries) = last_prefix (Some entry.prefix) entries
-
 -- the blocks of prefix deletes of a set, each behind the last prefix of the block before
 abbrev pub AreSetPrefixes : Option (List ℕ) → List (List PrefixEntry) → Type 0
 AreSetPrefixes last [] = Unit {0}
-AreSetPrefixes last (entries ∷ blocks) = ArePrefixEntries last entries × AreSetPrefixes (last_prefix last entries) blocks
+AreSetPrefixes last (entries ∷ blocks) = ArePrefixEntries last entries × AreSetPrefixes (last_name last entries) blocks
 
 -- ---- sets that may be written
 
@@ -67,3 +58,28 @@ pub record AreFormed (p : Pushed) : Type 0 where
   pub prefixes : AreSetPrefixes None (prefix_blocks_of p.slot_size (prefix_entries p.rows))
   pub keys : AreSetKeys None (key_blocks_of p.slot_size (key_entries p))
   pub values : AllByRecursion AreValues (values_by_block p)
+
+-- ---- packed sets in slots
+
+-- the bytes of a slot begin with those of a block
+abbrev pub BeginsWith : List ℕ → Block → Type 0
+BeginsWith text block = (rest : List ℕ) × (block.bytes.items ≡ text ++ rest)
+
+-- the blocks are in slots, in their order
+abbrev pub ArePut : List (List ℕ) → List Block → Type 0
+ArePut = Pairs BeginsWith
+
+-- those of prefix deletes and of keys, which a set always has of its own
+pub record IsPut (text : SetText) (prefix_blocks key_blocks : List Block) : Type 0 where
+  pub prefixes : ArePut text.prefixes prefix_blocks
+  pub keys : ArePut text.keys key_blocks
+
+-- the places lead to the values of the rows, among blocks of such values
+abbrev pub LeadTo : List (List (List ℕ)) → List ValuePlace → List Row → Type 0
+LeadTo values places rows = map (value_of values) places ≡ map (λ (value : List ℕ). Some value) (values_of rows)
+
+-- A set is opened, and has these rows.
+pub record HasRows (pushed : List Row) (opened : Result Contents (ℕ × ℕ)) : Type 0 where
+  pub contents : Contents
+  pub is : opened ≡ Ok contents
+  pub rows : contents_rows contents ≡ pushed

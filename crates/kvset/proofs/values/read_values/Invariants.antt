@@ -2,7 +2,7 @@ use Rattle.std.proofs.Common.{◌≡◌, map}
 use Rattle.std.specs.Arc.{arc_value}
 use Rattle.kvset.specs.Reading.{values_of}
 use Rattle.kvset.proofs.OpeningLemmas.{with_front}
-use Rattle.kvset.proofs.opening.read_values.Given as goal
+use Rattle.kvset.proofs.values.read_values.Given as goal
 
 abbrev pub invariant-loop-block : goal.invariant-loop-block
 invariant-loop-block l =

@@ -3,7 +3,7 @@ use Rattle.std.proofs.lemmas.List.{map_push, nil_from_length}
 use Rattle.std.specs.Arc.{arc_value}
 use Rattle.kvset.specs.Reading.{values_of}
 use Rattle.kvset.proofs.OpeningLemmas.{with_front, values_go_on, values_stop, values_are_done}
-use Rattle.kvset.proofs.opening.read_values.Goals as goal
+use Rattle.kvset.proofs.values.read_values.Goals as goal
 
 pub loop-block-preserved : goal.loop-block-preserved
 loop-block-preserved c =
