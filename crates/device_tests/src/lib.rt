@@ -4,6 +4,8 @@
 #[cfg(test)]
 mod device;
 #[cfg(test)]
+mod formats;
+#[cfg(test)]
 mod loads;
 #[cfg(test)]
 mod recovers;

@@ -17,7 +17,7 @@ const SEGMENT: usize = 200_704;
 
 /// The bytes of a device with a superblock, these entries of its manifest and these batches of its
 /// log.
-fn device(
+pub(crate) fn device(
     rt: &impl Abort,
     alloc: Global,
     entries: &[&[u8]],

@@ -6,3 +6,4 @@ pub mod HeadLemmas
 pub mod LogLemmas
 pub mod RollLemmas
 pub mod EachImage
+pub mod FirstLemmas

@@ -1,7 +1,10 @@
 //! Laws of the manifest. These functions do nothing; their contracts are the laws.
-ghost use Rattle.std.specs.Prelude.{◌≡◌, ◌≤◌, ℕ, List, [], ◌∷◌, ◌++◌, length, map, Option, Some, Ok};
+ghost use Rattle.std.specs.Prelude.{◌≡◌, ◌≤◌, ℕ, List, [], ◌∷◌, ◌++◌, length, map, Option, Some, None, Ok};
 ghost use Rattle.device_layout.specs.declared.layout.Layout.{Layout as a_layout};
 ghost use Rattle.device_layout.specs.Layouts.{IsGood, size_of_device};
+ghost use Rattle.device_layout.specs.Layouts.{half_of};
+ghost use Rattle.gate_log.specs.Gates.{Gated, IsClosed};
+ghost use Rattle.gate_log.specs.Places.{region_of, tail_of};
 ghost use Rattle.hse_fields.specs.laws.Fields.{IsBytes};
 ghost use Rattle.hse_rows.specs.machine.ManifestRoom.{creation_bytes, drop_bytes, base_bytes};
 ghost use Rattle.hse_rows.specs.machine.TakenRuns.{runs_of};
@@ -49,4 +52,20 @@ pub fn entries_are_as_the_machine_counts()
         → length (base_text m) ≡ base_bytes taken stores [] }
     ensures taken { (taken : List ℕ) (number : ℕ)
         → with_taken (runs_of taken) number ≡ runs_of (taken ++ number ∷ []) }
+{}
+
+/// A base alone in half 1, with sequence 1, is in force beside a half 0 with a closed head; until it
+/// is there, the manifest is refused at its first head. So the manifest of a new device is made.
+pub fn first_bases_are_in_force()
+    ensures held { (layout : a_layout) (image base : List ℕ) (m : Metadata) → IsGood layout
+        → IsClosed (region_of (half_of layout 0) image)
+        → Gated (region_of (half_of layout 1) image) 1 (base ∷ [])
+        → payload_of layout.stores None base ≡ Ok m
+        → Holds layout 1 1 (tail_of (base ∷ [])) image m }
+    ensures shut { (layout : a_layout) (image : List ℕ) → IsGood layout
+        → IsClosed (region_of (half_of layout 0) image)
+        → IsClosed (region_of (half_of layout 1) image) → IsRefused layout image 0 0 }
+    ensures started { (layout : a_layout) (image : List ℕ) → IsGood layout
+        → IsClosed (region_of (half_of layout 0) image)
+        → Gated (region_of (half_of layout 1) image) 1 [] → IsRefused layout image 0 0 }
 {}

@@ -23,7 +23,10 @@ pub use base::{Base, BaseStore};
 pub use encode::encode_entry;
 pub use entry::Entry;
 pub use fault::ManifestFault;
-pub use laws::{entries_are_as_the_machine_counts, entries_are_read, manifests_have_one_reading};
+pub use laws::{
+    entries_are_as_the_machine_counts, entries_are_read, first_bases_are_in_force,
+    manifests_have_one_reading,
+};
 pub use loaded::{LoadFault, Loaded};
 pub use loading::load;
 pub use manifest::Manifest;

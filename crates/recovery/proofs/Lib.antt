@@ -3,3 +3,7 @@ pub mod GapLemmas
 pub mod OneLoading
 pub mod NotBoth
 pub mod Each
+pub mod OneRefusal
+mod FormatLemmas
+mod NewLemmas
+mod StopLemmas

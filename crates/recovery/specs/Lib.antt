@@ -3,3 +3,4 @@ pub mod Stored
 pub mod Refused
 pub mod Answers
 pub mod Keeps
+pub mod Formatting

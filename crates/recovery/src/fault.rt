@@ -17,3 +17,17 @@ pub enum OpenFault {
     #[error("out of memory")]
     NoMemory,
 }
+
+/// Why a device was not formatted.
+#[derive(Clone, Copy, Debug, PartialEq, Eq, Error)]
+pub enum FormatFault {
+    #[error("no device has such sizes")]
+    BadParams,
+    /// How many bytes the device has.
+    #[error("the device holds {0} bytes")]
+    NotEmpty(u64),
+    #[error("the device failed")]
+    Device,
+    #[error("out of memory")]
+    NoMemory,
+}

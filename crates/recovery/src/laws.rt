@@ -7,9 +7,9 @@ ghost use Rattle.recovery.specs.declared.region.Region.{Region as a_region};
 
 use manifest::manifests_have_one_reading;
 
-/// No image is loaded in two ways: its layout, its manifest with its place, and its log are one. And
-/// no image of which something is loaded is refused anywhere, or of another version. Each image of
-/// bytes is one of these.
+/// No image is loaded in two ways: its layout, its manifest with its place, and its log are one. No
+/// image of which something is loaded is refused anywhere, or of another version. An image is
+/// refused in one part at one place. Each image of bytes is loaded, refused, or of another version.
 pub fn images_have_one_loading()
     ensures one { (image : List ℕ) (one other : Loaded)
         → IsLoaded image one → IsLoaded image other → one ≡ other }
@@ -17,6 +17,9 @@ pub fn images_have_one_loading()
         → IsLoaded image loaded → IsNotFormed image region place → ⊥ }
     ensures not_other { (image : List ℕ) (loaded : Loaded) (version : ℕ)
         → IsLoaded image loaded → IsOtherVersion image version → ⊥ }
+    ensures refused { (image : List ℕ) (region other : a_region) (place at : ℕ)
+        → IsNotFormed image region place → IsNotFormed image other at
+        → (region ≡ other) × (place ≡ at) }
     ensures each { (image : List ℕ) → IsBytes image → HasOpening image }
 {
     manifests_have_one_reading();

@@ -2,6 +2,8 @@
 #![tactic(auto)]
 
 mod fault;
+mod formatting;
+mod forming;
 mod laws;
 mod logs;
 mod opening;
@@ -9,7 +11,8 @@ mod recovered;
 mod region;
 mod superblocks;
 
-pub use fault::OpenFault;
+pub use fault::{FormatFault, OpenFault};
+pub use formatting::format;
 pub use laws::images_have_one_loading;
 pub use opening::recover;
 pub use recovered::Recovered;

@@ -20,7 +20,7 @@ use std::alloc::Global;
 use wal::{Segment, SegmentFault, StorePrefix, segment_in};
 
 /// The sequence of the one segment that is needed, and its place among the segments.
-const FIRST: u64 = 1;
+pub(crate) const FIRST: u64 = 1;
 
 /// The most bytes of a value on any device.
 const LONGEST_VALUE: u64 = 1_048_576;

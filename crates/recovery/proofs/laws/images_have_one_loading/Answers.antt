@@ -1,6 +1,7 @@
 use Rattle.recovery.proofs.Each.{each_opening}
 use Rattle.recovery.proofs.NotBoth.{not_formed, not_version}
 use Rattle.recovery.proofs.OneLoading.{one_loading}
+use Rattle.recovery.proofs.OneRefusal.{one_place}
 use Rattle.recovery.proofs.laws.images_have_one_loading.Goals as goal
 
 pub returns-clause-one : goal.returns-clause-one
@@ -14,3 +15,6 @@ returns-clause-not_other c = λ image loaded version is. not_version image loade
 
 pub returns-clause-each : goal.returns-clause-each
 returns-clause-each c = each_opening c.manifests_have_one_reading.ensures.each
+
+pub returns-clause-refused : goal.returns-clause-refused
+returns-clause-refused c = one_place
