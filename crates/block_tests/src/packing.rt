@@ -4,7 +4,7 @@ ghost use Rattle.hse_rows.specs.rows.Packing.{value_entry_bytes};
 ghost use Rattle.hse_rows.specs.rows.RowSets.{row_of};
 
 use hse_io::NoMemory;
-use hse_rows::{Change, ChangeRef, Key, Prefix, Row, RowRef, RowSet, StoreId, Value};
+use hse_rows::{Change, ChangeRef, Key, Prefix, Row, RowRef, RowSet, Shared, StoreId, Value};
 use ingest_tree::{IngestTree, StoreRows};
 use kblock::{ValuePlace, open_key_block};
 use kvset::{Block, Kvset, SetFault, open_set};
@@ -216,6 +216,7 @@ fn a_packed_set_opens_with_its_rows(rt: HostRuntime) -> Result<(), Fail> {
             };
             assert!(&rt; set.find(b"a") == Some(put));
             assert!(&rt; set.find(b"c").is_none());
+            assert_eq!(&rt; set.share(alloc)?.len(), 3);
         }
     }
     Ok(())

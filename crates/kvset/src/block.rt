@@ -1,8 +1,15 @@
 //! The blocks of a set, and why a set was not opened.
 
 use hse_io::NoMemory;
-use std::alloc::{AllocError, AllocFailed};
 use thiserror::Error;
+
+/// The bytes of a slot of the device.
+#[derive(Drop)]
+pub struct Block {
+    /// Which slot of the device, counted from 0.
+    pub slot: u32,
+    pub bytes: Vec<u8>,
+}
 
 /// Why a set was not opened.
 #[derive(Clone, Copy, Debug, PartialEq, Eq, Error)]
@@ -13,36 +20,6 @@ pub enum SetFault {
     /// There is no memory for what a set keeps beside its blocks.
     #[error("out of memory")]
     NoMemory,
-}
-
-impl<T: Drop> From<AllocFailed<T>> for SetFault {
-    ghost use Rattle.std.specs.Prelude.{◌≡◌};
-    ghost use Rattle.kvset.specs.declared.block.SetFault.TheVariants.{NoMemory as OutOfMemory};
-
-    ghost from_gives = { λ _ fault. fault ≡ OutOfMemory };
-
-    fn from(_: AllocFailed<T>) -> Self {
-        SetFault::NoMemory
-    }
-}
-
-impl From<AllocError> for SetFault {
-    ghost use Rattle.std.specs.Prelude.{◌≡◌};
-    ghost use Rattle.kvset.specs.declared.block.SetFault.TheVariants.{NoMemory as OutOfMemory};
-
-    ghost from_gives = { λ _ fault. fault ≡ OutOfMemory };
-
-    fn from(_: AllocError) -> Self {
-        SetFault::NoMemory
-    }
-}
-
-/// The bytes of a slot of the device.
-#[derive(Drop)]
-pub struct Block {
-    /// Which slot of the device, counted from 0.
-    pub slot: u32,
-    pub bytes: Vec<u8>,
 }
 
 impl From<NoMemory> for SetFault {

@@ -1,6 +1,6 @@
 //! A set of rows, lent from its blocks.
 ghost use Rattle.std.specs.Prelude.{◌≡◌, ◌<◌, ◌+◌, length, Ok, IfOk, IfErr};
-ghost use Rattle.kvset.specs.Parts.{contents_rows, slots_given, values_given, AreSlotted};
+ghost use Rattle.kvset.specs.Parts.{contents_of, contents_rows, slots_given, values_given, AreSlotted, IsSet};
 ghost use Rattle.kvset.specs.Reading.{set_of, set_over, slots_over, values_over, Refuses};
 ghost use Rattle.kvset.specs.Rows.{place_at};
 
@@ -35,6 +35,15 @@ impl Model for Kvset {
     ghost invariant = { λ set. IsSet (arc_value set.parts) };
 }
 
+/// The set of these parts.
+fn made(alloc: Global, parts: Parts) -> Result<Kvset, NoMemory>
+    requires { IsSet parts }
+    ensures { IfOk result (λ set. set ≡ contents_of parts) }
+{
+    let parts = Arc::new(alloc, parts)?;
+    Ok(Kvset { parts })
+}
+
 /// Opens a set by its blocks. `Damaged` has the slot and the place of the first field that is
 /// refused: block by block the prefix deletes, then the keys, then the values; then, key by key,
 /// the block of a value that no entry of that length begins at. Prefixes and keys ascend from block
@@ -50,9 +59,7 @@ pub fn open_set(
     ensures refused { IfErr result (Refuses (set_of prefixes.items keys.items values.items)) }
 {
     let parts = parts_of(alloc, prefixes, keys, Values::Unread(values))?;
-    Ok(Kvset {
-        parts: Arc::new(alloc, parts)?,
-    })
+    Ok(made(alloc, parts)?)
 }
 
 /// Opens a set whose blocks of values are those of open sets, in the order of these sets. They are
@@ -71,9 +78,7 @@ pub fn open_over(
         (slots_over run.now) (Ok (values_over run.now)))) }
 {
     let parts = parts_of(alloc, prefixes, keys, shared_values(alloc, run)?)?;
-    Ok(Kvset {
-        parts: Arc::new(alloc, parts)?,
-    })
+    Ok(made(alloc, parts)?)
 }
 
 /// The values of open sets, shared.

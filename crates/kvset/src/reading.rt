@@ -8,6 +8,7 @@ ghost use Rattle.kvset.specs.Reading.{in_slot, pages_of, slots_of, IsPart, Refus
 
 use crate::block::{Block, SetFault};
 use crate::keys::KeyPart;
+use crate::values::put;
 use hse_fields::Damaged;
 use kblock::open_key_block_behind;
 use std::alloc::Global;
@@ -56,12 +57,12 @@ pub(crate) fn read_keys(alloc: Global, blocks: Vec<Block>) -> Result<(Vec<KeyPar
     ensures count { IfOk result (λ x. x.1 ≡ length (all_keys x.0.items)) }
     ensures refused { IfErr result (Refuses (pages_of None blocks.items)) }
 {
-    let mut parts = Vec::with_capacity(alloc, blocks.len())?;
+    let mut parts = Vec::new(alloc);
     let mut count = 0;
     for block in blocks {
         let part = read_part(last_of(&parts), count, block)?;
         count += part.block.len();
-        parts.push(part)?;
+        put(&mut parts, part)?;
     }
     Ok((parts, count))
 }

@@ -1,5 +1,5 @@
 //! The blocks of a set's values: those that are read, and those of open sets.
-ghost use Rattle.std.specs.Prelude.{◌≡◌, ◌++◌, length, map, Ok, IfOk, IfErr, OnOk};
+ghost use Rattle.std.specs.Prelude.{◌≡◌, ◌++◌, ◌∷◌, [], length, map, Ok, IfOk, IfErr, OnOk};
 ghost use Rattle.std.specs.Arc.{arc_value};
 ghost use Rattle.kvset.specs.Parts.{own_value_slots, slots_given, values_given, values_in, IsSet};
 ghost use Rattle.kvset.specs.Reading.{slots_of, values_of, Refuses};
@@ -21,16 +21,31 @@ pub(crate) enum Values {
     Open(Vec<u32>, Vec<Arc<ValueBlock>>),
 }
 
+/// A block of values that several sets may own.
+fn owned(alloc: Global, values: ValueBlock) -> Result<Arc<ValueBlock>, NoMemory>
+    ensures { IfOk result (λ owned. arc_value owned ≡ values) }
+{
+    Ok(Arc::new(alloc, values)?)
+}
+
+/// Puts a part of a set behind others.
+pub(crate) fn put<T: Drop>(parts: &mut Vec<T>, part: T) -> Result<(), NoMemory>
+    ensures { OnOk result (parts.new.items ≡ parts.old.items ++ part ∷ []) }
+{
+    parts.push(part)?;
+    Ok(())
+}
+
 /// The values of these blocks.
 fn read_values(alloc: Global, blocks: Vec<Block>) -> Result<Vec<Arc<ValueBlock>>, SetFault>
     ensures read { IfOk result (λ opened.
         values_of blocks.items ≡ Ok (map arc_value opened.items)) }
     ensures refused { IfErr result (Refuses (values_of blocks.items)) }
 {
-    let mut opened = Vec::with_capacity(alloc, blocks.len())?;
+    let mut opened = Vec::new(alloc);
     for block in blocks {
         match open_value_block(block.bytes) {
-            Ok(values) => opened.push(Arc::new(alloc, values)?)?,
+            Ok(values) => put(&mut opened, owned(alloc, values)?)?,
             Err(Damaged(place)) => return Err(SetFault::Damaged(block.slot, place)),
         }
     }

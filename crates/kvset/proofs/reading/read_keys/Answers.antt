@@ -12,7 +12,7 @@ use Rattle.kvset.proofs.reading.read_keys.Goals as goal
 
 pub returns-in_err-part-clause-refused : goal.returns-in_err-part-clause-refused
 returns-in_err-part-clause-refused c =
-    let p = err_from_is_err_and c.from_residual-in_err-part.result c.from_residual-in_err-part.ensures.1 in
+    let p = err_from_is_err_and c.from_residual.result c.from_residual.ensures.1 in
     let total = pages_of None c.args.blocks.items in
     let parts = c.loop-block.parts.items in
     let last : lent c.last_of.result ≡ last_key None (all_keys parts) = c.last_of.ensures ∙ ap (λ l. last_key None (all_keys l)) c.deref.ensures.value in
@@ -32,7 +32,7 @@ loop-block-preserved c =
     let is : IsPart (last_key None (all_keys parts)) c.loop-block.count block part = subst (λ o. IsPart o c.loop-block.count block part) last c.in_ok-part.ensures.read in
     let so_far = subst (λ l. with_front (blocks_of parts) (pages_of (last_key None (all_keys parts)) l) ≡ total) c.in-Some.ensures.steps.0 c.loop-block.invariant.read in
     let slots_so_far = subst (λ l. part_slots parts ++ slots_of l ≡ slots_of c.args.blocks.items) c.in-Some.ensures.steps.0 c.loop-block.invariant.slots in
-    let pushed : c.push.new.self.items ≡ parts ++ part ∷ [] = c.in_ok-push.ensures.items in
+    let pushed : c.put.new.parts.items ≡ parts ++ part ∷ [] = c.in_ok-put.ensures in
     let count = c.loop-block.invariant.counted in
     let are = parts_pushed parts part c.loop-block.invariant.are is.keys (is.from ∙ count) (omega (arith, is.few, count)) in
     let sum : c.loop-block.count + c.len-count.result ≡ length (all_keys (parts ++ part ∷ [])) =

@@ -11,7 +11,7 @@ loop-block-preserved c =
     let total = values_of c.args.blocks.items in
     let so_far = subst (λ l. with_front front (values_of l) ≡ total) c.in-Some.ensures.steps.0 c.loop-block.invariant in
     let on = values_go_on front c.in-Some.block c.next.new.self.rest.items c.in-Ok.values total c.in-Ok.ensures so_far in
-    let pushed = ap (map arc_value) c.in_ok-push-in-Ok.ensures.items ∙ map_push arc_value c.loop-block.opened.items c.in_ok-new-in-Ok.field-0 ∙ ap (λ v. front ++ v ∷ []) c.in_ok-new-in-Ok.ensures.ok in
+    let pushed = ap (map arc_value) c.in_ok-put-in-Ok.ensures ∙ map_push arc_value c.loop-block.opened.items c.in_ok-owned-in-Ok.field-0 ∙ ap (λ v. front ++ v ∷ []) c.in_ok-owned-in-Ok.ensures in
     subst (λ l. with_front l (values_of c.next.new.self.rest.items) ≡ total) (sym pushed) on
 
 pub returns-in-Err-clause-refused : goal.returns-in-Err-clause-refused
