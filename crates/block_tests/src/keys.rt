@@ -1,5 +1,6 @@
 //! Blocks of keys, built, opened, searched, and changed at each field.
 ghost use Rattle.std.specs.Prelude.{◌<◌, ◌≤◌, length};
+ghost use Rattle.hse_rows.specs.writes.Lengths.{longest_key};
 
 use hse_io::NoMemory;
 use kblock::{Damaged, KeyBlock, KeyBlockBuilder, KeyEntry, ValuePlace, open_key_block};
@@ -10,7 +11,7 @@ use std::test::Fail;
 /// The block of a deletion of number 7; none where it does not fit.
 fn built(alloc: Global, key: &[u8]) -> Result<Option<Vec<u8>>, NoMemory>
     requires some { 1 ≤ length key.now }
-    requires short { length key.now ≤ 1344 }
+    requires short { length key.now ≤ longest_key }
 {
     let mut builder = KeyBlockBuilder::new(alloc, 65_536)?;
     let entry = KeyEntry {

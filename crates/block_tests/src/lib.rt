@@ -6,6 +6,8 @@ mod changes;
 #[cfg(test)]
 mod keys;
 #[cfg(test)]
+mod longest;
+#[cfg(test)]
 mod packing;
 #[cfg(test)]
 mod prefixes;

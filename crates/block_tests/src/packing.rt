@@ -3,6 +3,7 @@ ghost use Rattle.std.specs.Prelude.{◌≡◌, ◌+◌, ◌≤◌, true};
 ghost use Rattle.hse_rows.specs.rows.Packing.{value_entry_bytes};
 ghost use Rattle.hse_rows.specs.rows.RowSets.{row_of};
 
+use crate::values::SLOT;
 use hse_io::NoMemory;
 use hse_rows::{Change, ChangeRef, Key, Prefix, Row, RowRef, RowSet, Shared, StoreId, Value};
 use ingest_tree::{IngestTree, StoreRows};
@@ -28,7 +29,7 @@ fn fits(row: RowRef<'_>) -> bool
 /// The blocks of rows, of at most 65,536 bytes; none where a value does not fit into one.
 fn packed<R: RowSet>(alloc: Global, rows: &R) -> Result<Option<Packed>, NoMemory> {
     rows.known();
-    let mut packer = Packer::new(alloc, 65_536, true)?;
+    let mut packer = Packer::new(alloc, SLOT, true)?;
     for at in 0..rows.len() {
         let row = rows.row(at);
         if !fits(row) {
@@ -107,7 +108,7 @@ fn blocks_are_as_full_as_they_go(rt: HostRuntime) -> Result<(), Fail> {
 /// The blocks of rows whose values stay where they are, all at one place.
 fn packed_over<R: RowSet>(alloc: Global, rows: &R, place: ValuePlace) -> Result<Packed, NoMemory> {
     rows.known();
-    let mut packer = Packer::new(alloc, 65_536, false)?;
+    let mut packer = Packer::new(alloc, SLOT, false)?;
     for at in 0..rows.len() {
         packer.push(rows.row(at), Some(place))?;
     }
@@ -157,7 +158,7 @@ fn values_stand_where_their_keys_say(rt: HostRuntime) -> Result<(), Fail> {
     };
     assert!(&rt; place_in(packed.keys) == Some(place));
     for block in packed.values {
-        match open_value_block(block) {
+        match open_value_block(SLOT, block) {
             Err(_) => assert!(&rt; false),
             Ok(block) => assert!(&rt; block.value(16, 1) == Some(b"v".as_slice())),
         }
@@ -195,7 +196,7 @@ fn opened(alloc: Global, packed: Packed) -> Result<Result<Kvset, SetFault>, NoMe
     let prefixes = in_slots(alloc, 0, packed.prefixes)?;
     let keys = in_slots(alloc, 10, packed.keys)?;
     let values = in_slots(alloc, 20, packed.values)?;
-    Ok(open_set(alloc, prefixes, keys, values))
+    Ok(open_set(alloc, SLOT, prefixes, keys, values))
 }
 
 #[test]

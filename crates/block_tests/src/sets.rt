@@ -1,4 +1,5 @@
 //! Sets of blocks, opened, searched, and changed at fields.
+use crate::values::SLOT;
 use hse_rows::{ChangeRef, RowSet};
 use kvset::{Block, Kvset, SetFault, ValuePlace, open_over, open_set};
 use std::alloc::Global;
@@ -74,7 +75,7 @@ fn opened(alloc: Global, change: Change) -> Result<Result<Kvset, SetFault>, Fail
     let mut keys = block(alloc, FIRST, &FIRST_KEYS, 4_116, change)?;
     let mut more = block(alloc, SECOND, &SECOND_KEYS, 4_116, change)?;
     keys.append(&mut more)?;
-    Ok(open_set(alloc, prefixes, keys, values))
+    Ok(open_set(alloc, SLOT, prefixes, keys, values))
 }
 
 /// A slot, a place, another byte there, and where the slot is then damaged.
@@ -198,7 +199,7 @@ fn others(alloc: Global) -> Result<Result<Kvset, SetFault>, Fail> {
         byte: b'w',
     };
     let values = block(alloc, OTHERS, &VALUE_BLOCK, 25, change)?;
-    Ok(open_set(alloc, Vec::new(alloc), Vec::new(alloc), values))
+    Ok(open_set(alloc, SLOT, Vec::new(alloc), Vec::new(alloc), values))
 }
 
 /// The first block of keys over the values of both sets; the value of its put is in this block of

@@ -8,6 +8,9 @@ use std::process::Abort;
 use std::test::Fail;
 use vblock::{ValueBlockBuilder, open_value_block};
 
+/// How many bytes a slot has.
+pub(crate) const SLOT: u64 = 65_536;
+
 /// The block of the values `v` and none.
 static BLOCK: [u8; 25] = [
     0x56, 0, 0, 0, 0, 0, 0, 25, 0, 0, 0, 2, 0, 0, 0, 0, 0, 0, 0, 1, b'v', 0, 0, 0, 0,
@@ -21,15 +24,19 @@ pub(crate) fn damage(alloc: Global, at: usize, byte: u8) -> Result<Option<u64>, 
     bytes.extend_from_slice(&BLOCK[..at])?;
     bytes.push(byte)?;
     bytes.extend_from_slice(&BLOCK[at + 1..])?;
-    match open_value_block(bytes) {
+    match open_value_block(SLOT, bytes) {
         Ok(_) => Ok(None),
         Err(Damaged(place)) => Ok(Some(place)),
     }
 }
 
-/// The offsets of two values in a block of 65,536 bytes, and the block; none where one does not fit.
-fn built(alloc: Global, one: &[u8], other: &[u8]) -> Result<Option<(u32, u32, Vec<u8>)>, NoMemory> {
-    let mut builder = ValueBlockBuilder::new(alloc, 65_536)?;
+/// The offsets of two values in a block of a slot, and the block; none where one does not fit.
+pub(crate) fn built(
+    alloc: Global,
+    one: &[u8],
+    other: &[u8],
+) -> Result<Option<(u32, u32, Vec<u8>)>, NoMemory> {
+    let mut builder = ValueBlockBuilder::new(alloc, SLOT)?;
     let Ok(first) = builder.push(one) else {
         return Ok(None);
     };
@@ -39,9 +46,9 @@ fn built(alloc: Global, one: &[u8], other: &[u8]) -> Result<Option<(u32, u32, Ve
     Ok(Some((first, second, builder.finish())))
 }
 
-/// What refuses a value a second time in a block of 65,536 bytes, if anything does.
+/// What refuses a value a second time in a block of a slot, if anything does.
 fn refused(alloc: Global, value: &[u8]) -> Result<Option<BlockFull>, NoMemory> {
-    let mut builder = ValueBlockBuilder::new(alloc, 65_536)?;
+    let mut builder = ValueBlockBuilder::new(alloc, SLOT)?;
     let Ok(_) = builder.push(value) else {
         return Ok(None);
     };
@@ -57,7 +64,7 @@ fn values_are_built_and_found(rt: HostRuntime) -> Result<(), Fail> {
     assert_eq!(&rt; first, 16);
     assert_eq!(&rt; second, 21);
     assert!(&rt; bytes.as_slice() == BLOCK.as_slice());
-    match open_value_block(bytes) {
+    match open_value_block(SLOT, bytes) {
         Err(_) => assert!(&rt; false),
         Ok(block) => {
             assert!(&rt; block.value(16, 1) == Some(b"v".as_slice()));

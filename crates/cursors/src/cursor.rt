@@ -9,6 +9,7 @@ ghost use Rattle.cursors.specs.Cursors.{AreNewer, IsOpened, RefusesOpening, IsUp
 ghost use Rattle.cursors.specs.Cursors.{IsPairAt, IsRead, RefusesUpdate, meant, ranged, with_position};
 ghost use Rattle.hse_rows.specs.script.Cursor.{Pair, at_key, forward, backward, found_by, read_by};
 ghost use Rattle.hse_rows.specs.script.Cursor.{after_read, sought, sought_range};
+ghost use Rattle.hse_rows.specs.writes.Lengths.{longest_key};
 
 use crate::faults::{CursorFault, ForwardOnly};
 use crate::look::look;
@@ -160,8 +161,8 @@ impl<R: Shared> Cursor<R> {
 
     /// Goes to a key, with another last key or none.
     fn go(&mut self, key: &[u8], last: Option<&[u8]>)
-        requires key { length key.now ≤ 1344 }
-        requires last { IfSome last (λ last. length last.now ≤ 1344) }
+        requires key { length key.now ≤ longest_key }
+        requires last { IfSome last (λ last. length last.now ≤ longest_key) }
         ensures { self.new ≡ with_position self.old (at_key key.now)
             (option_map (λ last. last.now) last.entry) }
     {

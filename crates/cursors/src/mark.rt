@@ -2,9 +2,11 @@
 ghost use Rattle.std.specs.Prelude.{◌≡◌, ◌≤◌, [], length, None, IfOk, IfSome};
 ghost use Rattle.std.specs.Option.{option_map};
 ghost use Rattle.hse_rows.specs.script.Cursor.{front};
+ghost use Rattle.hse_rows.specs.writes.Lengths.{longest_key};
 ghost use Rattle.cursors.specs.Marks.{position_by};
 
 use hse_io::NoMemory;
+use hse_rows::LONGEST_KEY;
 use std::alloc::Global;
 use std::marker::Model;
 
@@ -19,9 +21,6 @@ pub(crate) enum Stand {
     Past,
 }
 
-/// The most bytes that a key has.
-const LONGEST_KEY: usize = 1344;
-
 /// A key in room for the longest one.
 #[derive(Drop)]
 pub(crate) struct KeyRoom {
@@ -30,12 +29,13 @@ pub(crate) struct KeyRoom {
 
 impl Model for KeyRoom {
     ghost use Rattle.std.specs.Prelude.{List, ℕ, ◌≤◌, vec_capacity};
+    ghost use Rattle.hse_rows.specs.writes.Lengths.{longest_key};
 
     ghost Value = { List ℕ };
 
     ghost view = { λ r. r.bytes.items };
 
-    ghost invariant = { λ r. 1344 ≤ vec_capacity r.bytes };
+    ghost invariant = { λ r. longest_key ≤ vec_capacity r.bytes };
 }
 
 impl KeyRoom {
@@ -49,7 +49,7 @@ impl KeyRoom {
 
     /// Another key in its place. It takes no memory.
     pub(crate) fn set(&mut self, key: &[u8])
-        requires { length key.now ≤ 1344 }
+        requires { length key.now ≤ longest_key }
         ensures { self.new ≡ key.now }
     {
         self.bytes.clear();
@@ -94,7 +94,7 @@ impl Mark {
 
     /// At a key, or behind it. It takes no memory.
     pub(crate) fn set(&mut self, stand: Stand, key: &[u8])
-        requires { length key.now ≤ 1344 }
+        requires { length key.now ≤ longest_key }
         ensures { self.new ≡ position_by stand key.now }
     {
         self.stand = stand;
@@ -139,7 +139,7 @@ impl Last {
 
     /// Another last key, or none. It takes no memory.
     pub(crate) fn set(&mut self, key: Option<&[u8]>)
-        requires { IfSome key (λ key. length key.now ≤ 1344) }
+        requires { IfSome key (λ key. length key.now ≤ longest_key) }
         ensures { self.new ≡ option_map (λ key. key.now) key.entry }
     {
         match key {

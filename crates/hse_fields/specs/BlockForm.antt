@@ -1,15 +1,15 @@
 -- Which entries a block may have.
 use Rattle.std.specs.Prelude.{◌≡◌, ℕ, ◌+◌, ◌^◌, ◌<◌, ◌≤◌, true, List, [], ◌∷◌, length, Option, Some}
 use Rattle.std.specs.List.{AllByRecursion}
-use Rattle.hse_fields.specs.LogLimits.{longest_prefix, value_limit}
+use Rattle.hse_fields.specs.LogLimits.{longest_prefix}
 use Rattle.hse_fields.specs.BlockText.{header_size, values_text, PrefixEntry, prefixes_text}
 use Rattle.hse_fields.specs.BlockReading.{is_above}
 
--- one value or more, with the header fewer bytes than the used bytes can say
-pub record AreValues (values : List (List ℕ)) : Type 0 where
+-- one value or more of at most so many bytes, with the header fewer bytes than the used bytes can say
+pub record AreValues (most : ℕ) (values : List (List ℕ)) : Type 0 where
   pub some : 1 ≤ length values
   pub counted : length values < 2 ^ 32
-  pub each : AllByRecursion (λ (value : List ℕ). length value ≤ value_limit) values
+  pub each : AllByRecursion (λ (value : List ℕ). length value ≤ most) values
   pub within : header_size + length (values_text values) < 2 ^ 32
 
 -- each prefix is within its limits and above the one before it

@@ -5,7 +5,7 @@ use Rattle.std.specs.Ordering.{nat_cmp, is_lt}
 use Rattle.std.specs.Cmp.Lexicographic.{slice_cmp}
 use Rattle.byteorder.specs.Endian.{big_number}
 use Rattle.hse_fields.specs.Fields.{number_of, bytes_of}
-use Rattle.hse_fields.specs.LogLimits.{longest_key, longest_prefix, value_limit}
+use Rattle.hse_fields.specs.LogLimits.{longest_key, longest_prefix}
 use Rattle.hse_fields.specs.LogReading.{◌>>=◌, ensure, sized_of}
 use Rattle.hse_fields.specs.BlockText.{header_size, page_size, page_cost, value_kind, prefix_kind, key_kind, PrefixEntry, KeyEntry}
 use Rattle.hse_fields.specs.declared.block.BlockHeader.{BlockHeader}
@@ -65,12 +65,12 @@ body_of used bytes = drop header_size (take used bytes)
 
 -- ---- values
 
--- So many values. A length above the limit of a value is refused at itself.
-unfoldable pub values_of : ℕ → List ℕ → Result (List (List ℕ) × List ℕ) ℕ
-values_of zero bytes = Ok ([], bytes)
-values_of (suc n) bytes = do
-  first ← sized_of 4 0 value_limit bytes
-  others ← values_of n first.1
+-- So many values of at most so many bytes. A greater length is refused at itself.
+unfoldable pub values_of : ℕ → ℕ → List ℕ → Result (List (List ℕ) × List ℕ) ℕ
+values_of most zero bytes = Ok ([], bytes)
+values_of most (suc n) bytes = do
+  first ← sized_of 4 0 most bytes
+  others ← values_of most n first.1
   Ok (first.0 ∷ others.0, others.1)
 
 -- the bytes behind what was read
@@ -79,17 +79,18 @@ behind_of (Ok x) = Ok x.1
 behind_of (Err left) = Err left
 
 -- The values behind this header. Bytes left over are refused at the used bytes, whose place is 4.
-unfoldable pub values_with : BlockHeader → List ℕ → Result (List (List ℕ)) ℕ
-values_with head bytes = do
-  values ← placed head.used (values_of head.count (body_of head.used bytes))
+unfoldable pub values_with : ℕ → BlockHeader → List ℕ → Result (List (List ℕ)) ℕ
+values_with most head bytes = do
+  values ← placed head.used (values_of most head.count (body_of head.used bytes))
   ended ← ensure (length values.1 == 0) 4
   Ok values.0
 
--- The values of a block, or the place of the first refused field. What stands behind the used bytes is not read.
-unfoldable pub value_block_of : List ℕ → Result (List (List ℕ)) ℕ
-value_block_of bytes = do
+-- The values of a block, of at most so many bytes each, or the place of the first refused field. What stands behind the
+-- used bytes is not read.
+unfoldable pub value_block_of : ℕ → List ℕ → Result (List (List ℕ)) ℕ
+value_block_of most bytes = do
   head ← plain_header_of value_kind bytes
-  values_with head bytes
+  values_with most head bytes
 
 -- ---- names in order
 

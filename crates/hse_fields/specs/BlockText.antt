@@ -2,7 +2,7 @@
 --
 --     header          u8 kind (`V`, `P` or `K`); three zero bytes; u32 used bytes, the header's among them; u32 entries, at
 --                     least 1; u32 pages, 0 but for keys
---     value           u32 length (at most 1,048,576), the value
+--     value           u32 length (at most what a slot allows), the value
 --     prefix delete   u64 number, u8 length (1 to 32), the prefix; ascending by prefix
 --     key             u8 1 of a put or 2 of a deletion, u64 number, u16 length (1 to 1,344), the key, and of a put u32 block, u32
 --                     offset of the value's entry in it, u32 length of the value; ascending by key

@@ -9,10 +9,6 @@ longest_key = 1344
 abbrev pub longest_prefix : ℕ
 longest_prefix = 32
 
--- the most bytes that a value may have
-abbrev pub value_limit : ℕ
-value_limit = 1048576
-
 -- the most bytes that a value has whose length can be written
 abbrev pub longest_value : ℕ
 longest_value = 4294967295

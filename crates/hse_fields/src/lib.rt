@@ -21,9 +21,7 @@ pub use block::{
 pub use block_laws::{prefix_blocks_are_read, value_blocks_are_read};
 pub use header::{block_body, read_header, read_plain_header, write_header};
 pub use laws::{log_text_is_read, log_text_is_read_by_rule, put_is_taken};
-pub use limits::{
-    DELETION, LONGEST_KEY, LONGEST_PREFIX, LONGEST_VALUE, PREFIX_DELETE, PUT, VALUE_LIMIT,
-};
+pub use limits::{DELETION, LONGEST_KEY, LONGEST_PREFIX, LONGEST_VALUE, PREFIX_DELETE, PUT};
 pub use name::split_name;
 pub use put::{put_bytes, put_pieces, put_u8, put_u16, put_u32, put_u64};
 pub use refusal::Refusal;

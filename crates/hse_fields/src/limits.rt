@@ -15,8 +15,5 @@ pub const LONGEST_KEY: u64 = 1_344;
 /// The most bytes that a prefix has.
 pub const LONGEST_PREFIX: u64 = 32;
 
-/// The most bytes that a value may have.
-pub const VALUE_LIMIT: u64 = 1_048_576;
-
 /// The most bytes that a value has whose length can be written.
 pub const LONGEST_VALUE: u64 = 4_294_967_295;

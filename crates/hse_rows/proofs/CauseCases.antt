@@ -12,7 +12,8 @@ use Rattle.hse_rows.specs.rows.Job.{ingest, of_run, keys, values, spill, picked}
 use Rattle.hse_rows.specs.rows.Job as jobs
 use Rattle.hse_rows.specs.machine.Turn.{sync, freeze, create, drop, syncing, freezing, creating, dropping, installing}
 use Rattle.hse_rows.specs.machine.Replies.{accepted, ok, refused, name_used, no_name, ended_by, by_commit, by_abort, no_store, store_mode, key_length, prefix_length, broken, spent, busy, manifest_full, txn_size, log_full, log_busy, store_held, node_busy, no_run, job_state}
-use Rattle.hse_rows.specs.machine.Core.{longest_key, new_manifest}
+use Rattle.hse_rows.specs.writes.Lengths.{longest_key}
+use Rattle.hse_rows.specs.machine.Core.{new_manifest}
 use Rattle.hse_rows.specs.script.ScriptLines.{nobody, someone, begin, write_by, get, commit, abort, open_cursor, update, pick, build, drop_job, take, take_install, write_turn, end_turn, turn, job, reopen}
 use Rattle.hse_rows.specs.script.Script.{Script}
 use Rattle.hse_rows.specs.script.ScriptRefusal.{refusal, refuse, edge_refusal}

@@ -12,7 +12,8 @@ use Rattle.hse_rows.specs.machine.Turn as turns
 use Rattle.hse_rows.specs.machine.Replies as replies
 use Rattle.hse_rows.specs.machine.Replies.{Refusal, Answer}
 use Rattle.hse_rows.specs.machine.Calls.{outside, inside, Call, begin, write_by, get, commit, abort, list_stores, tree, info, take_place, give_place, pick, build, drop_job, next_job, take, take_install, write_turn, end_turn, reopen}
-use Rattle.hse_rows.specs.machine.Core.{Core, Stored, life, now, number_of, write_to, with_move, longest_prefix}
+use Rattle.hse_rows.specs.writes.Lengths.{longest_prefix}
+use Rattle.hse_rows.specs.machine.Core.{Core, Stored, life, now, number_of, write_to, with_move}
 use Rattle.hse_rows.specs.machine.ManifestEntry.{ManifestEntry, entered, creation_entry, drop_entry, install_entry}
 use Rattle.hse_rows.specs.machine.CoreRefusal.{refusal, refuse, is_spent, outside_refusal, inside_refusal, commit_refusal, is_log_busy, install_refusal, drop_refusal, take_refusal, first_in_store}
 use Rattle.hse_rows.specs.machine.CoreDone.{taking_install, done, refused_to, failing, without_job, building, log_with, frozen_log, with_installing, taking, planned, ending, ending_failed, given_up}

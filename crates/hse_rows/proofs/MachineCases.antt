@@ -8,7 +8,8 @@ use Rattle.hse_rows.specs.writes.Charge.{charge_of}
 use Rattle.hse_rows.specs.machine.Sizes.{Sizes}
 use Rattle.hse_rows.specs.machine.ManifestRoom.{gained}
 use Rattle.hse_rows.specs.machine.Replies.{bad_line, store_exists, no_store, store_mode, key_length, value_length, prefix_length, broken, log_full, txn_size, ok, listed, figures}
-use Rattle.hse_rows.specs.machine.Core.{Core, whole_room, left_room, longest_key, longest_value}
+use Rattle.hse_rows.specs.writes.Lengths.{longest_key}
+use Rattle.hse_rows.specs.machine.Core.{Core, whole_room, left_room, longest_value}
 use Rattle.hse_rows.specs.machine.CoreRefusal.{refuse, key_refusal, value_refusal, size_refusal, room_refusal}
 use Rattle.hse_rows.specs.script.ScriptLines.{Line, list_stores, get, info, bad}
 use Rattle.hse_rows.specs.script.Script.{Script}

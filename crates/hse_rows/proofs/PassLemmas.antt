@@ -16,7 +16,8 @@ use Rattle.hse_rows.specs.machine.Turn.{Turn, home, taken, ran}
 use Rattle.hse_rows.specs.machine.Replies.{Refusal, no_name}
 use Rattle.hse_rows.specs.machine.Replies as replies
 use Rattle.hse_rows.specs.machine.Sizes.{Sizes}
-use Rattle.hse_rows.specs.machine.Core.{Core, whole_room, longest_key, longest_value}
+use Rattle.hse_rows.specs.writes.Lengths.{longest_key}
+use Rattle.hse_rows.specs.machine.Core.{Core, whole_room, longest_value}
 use Rattle.hse_rows.specs.machine.CoreRefusal.{refuse, key_refusal, value_refusal, change_refusal, size_refusal, is_tx, unless_ended, in_transaction, unless_canceled, unless_busy, unless_busy_with, unless_held, with_job}
 
 -- a test that does not refuse

@@ -8,7 +8,7 @@ use crate::length_fault::LengthFault;
 use std::alloc::Global;
 
 /// The most bytes that a key has.
-pub(crate) const LONGEST_KEY: usize = 1344;
+pub const LONGEST_KEY: usize = 1344;
 
 /// The bytes of a key, 1 to 1,344.
 pub type Key = Bounded<1, LONGEST_KEY>;

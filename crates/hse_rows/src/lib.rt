@@ -29,7 +29,7 @@ pub use core_laws::{
     others_keep_timelines, runs_are_isolated, timelines_stand,
 };
 pub use edge::Edge;
-pub use key::{Key, KeyFault};
+pub use key::{Key, KeyFault, LONGEST_KEY};
 pub use laws::{
     conflicts_are_of_transactions, creations_may_come_first, keys_hold_last_effects,
     normal_forms_do_the_same, normal_forms_overlap_the_same, overlaps_go_both_ways,
@@ -38,7 +38,7 @@ pub use laws::{
 pub use length_fault::LengthFault;
 pub use name::{NameFault, StoreName};
 pub use normal_form::{charges_grow_by_the_change_at_most, normal_forms_are_in_order};
-pub use prefix::{Prefix, PrefixFault};
+pub use prefix::{LONGEST_PREFIX, Prefix, PrefixFault};
 pub use row::{Row, RowRef};
 pub use row_set::{RowSet, Shared};
 pub use script_laws::{
@@ -47,6 +47,6 @@ pub use script_laws::{
 };
 pub use store::{Mode, StoreId};
 pub use taken_run::TakenRun;
-pub use value::{Value, ValueFault};
+pub use value::{LONGEST_VALUE, Value, ValueFault, longest_value};
 pub use write::Write;
 pub use write_set::WriteSet;

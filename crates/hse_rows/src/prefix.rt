@@ -9,7 +9,7 @@ use crate::length_fault::LengthFault;
 use std::alloc::Global;
 
 /// The most bytes that a prefix has.
-const LONGEST_PREFIX: usize = 32;
+pub const LONGEST_PREFIX: usize = 32;
 
 /// The bytes that the keys of a prefix delete begin with, 1 to 32.
 pub type Prefix = Bounded<1, LONGEST_PREFIX>;

@@ -1,5 +1,6 @@
 //! The value of a pair.
 ghost use Rattle.std.specs.Prelude.{◌≡◌, ◌≤◌, length, IfOk, IfErr};
+ghost use Rattle.hse_rows.specs.writes.Lengths.{longest_value_in};
 ghost use Rattle.hse_rows.specs.writes.Refusals.{RefusesValue};
 
 use crate::length_fault::LengthFault;
@@ -7,6 +8,17 @@ use crate::shared_bytes::SharedBytes;
 use hse_io::NoMemory;
 use std::alloc::Global;
 use std::marker::Model;
+
+/// The most bytes that a value has on any device.
+pub const LONGEST_VALUE: u64 = 1_048_576;
+
+/// The most bytes that a value has on a device with slots of so many bytes: as on any device, and 64
+/// fewer than a slot.
+pub fn longest_value(slot: u64) -> u64
+    ensures { result ≡ longest_value_in slot }
+{
+    LONGEST_VALUE.min(slot.saturating_sub(64))
+}
 
 /// The bytes of a value.
 #[derive(Drop)]

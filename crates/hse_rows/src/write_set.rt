@@ -128,6 +128,13 @@ impl WriteSet {
         })
     }
 
+    /// The writes, in their order. It takes no memory.
+    pub fn into_writes(self) -> Vec<Write>
+        ensures { result.items ≡ self }
+    {
+        self.writes
+    }
+
     /// How many changes the set has. It takes no memory.
     pub fn len(&self) -> u64
         ensures count { result ≡ length self.now }

@@ -1,6 +1,7 @@
 //! Fills a block with keys, page by page.
 ghost use Rattle.std.specs.Prelude.{◌≡◌, ◌+◌, ◌*◌, ◌-◌, ◌<◌, ◌≤◌, ◌^◌, ◌++◌, ◌∷◌, [], drop, false, length, true, ℕ, List, OnOk, OnErr, IfOk, IfErr};
 ghost use Rattle.hse_fields.specs.BlockText.{KeyEntry as an_entry, block_header, header_size, key_block_text, key_kind, key_text, page_cost};
+ghost use Rattle.hse_fields.specs.LogLimits.{longest_key};
 ghost use Rattle.kblock.specs.Building.{Builds, goes_in, page_with, pages_with};
 ghost use Rattle.kblock.specs.Entries.{entry_of};
 
@@ -54,7 +55,7 @@ impl KeyBlockBuilder {
         requires held { (slot : ℕ) × (pages : List (List an_entry)) × (page : List an_entry)
             × Builds slot pages page self.old }
         requires some { 1 ≤ length entry.now.key.now }
-        requires short { length entry.now.key.now ≤ 1344 }
+        requires short { length entry.now.key.now ≤ longest_key }
         ensures added { (slot : ℕ) (pages : List (List an_entry)) (page : List an_entry)
             → Builds slot pages page self.old → OnOk result (Builds slot
             (pages_with pages page (entry_of entry.now)) (page_with page (entry_of entry.now))
@@ -106,7 +107,7 @@ impl KeyBlockBuilder {
     fn put(&mut self, entry: &KeyEntry<'_>)
         requires held { (slot : ℕ) × (pages : List (List an_entry)) × (page : List an_entry)
             × Builds slot pages page self.old × (goes_in page (entry_of entry.now) ≡ true) }
-        requires short { length entry.now.key.now ≤ 1344 }
+        requires short { length entry.now.key.now ≤ longest_key }
         ensures { (slot : ℕ) (pages : List (List an_entry)) (page : List an_entry)
             → Builds slot pages page self.old → goes_in page (entry_of entry.now) ≡ true
             → Builds slot pages (page ++ entry_of entry.now ∷ []) self.new }

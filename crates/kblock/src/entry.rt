@@ -1,6 +1,7 @@
 //! A key of a block.
 ghost use Rattle.std.specs.Prelude.{◌≡◌, ◌≤◌, length};
 ghost use Rattle.hse_fields.specs.BlockText.{key_text};
+ghost use Rattle.hse_fields.specs.LogLimits.{longest_key};
 ghost use Rattle.kblock.specs.Entries.{entry_of};
 
 use hse_fields::ValuePlace;
@@ -16,7 +17,7 @@ pub struct KeyEntry<'a> {
 
 /// How many bytes the entry takes of a page.
 pub(crate) fn size(entry: &KeyEntry<'_>) -> u64
-    requires { length entry.now.key.now ≤ 1344 }
+    requires { length entry.now.key.now ≤ longest_key }
     ensures { result ≡ length (key_text (entry_of entry.now)) }
 {
     let key = 11 + entry.key.len() as u64;

@@ -2,6 +2,7 @@
 ghost use Rattle.std.specs.Prelude.{◌≡◌, ◌+◌, ◌≤◌, ◌<◌, ◌++◌, ◌-◌, length, replicate, vec_capacity};
 ghost use Rattle.byteorder.specs.Endian.{big_bytes};
 ghost use Rattle.hse_fields.specs.BlockText.{key_text};
+ghost use Rattle.hse_fields.specs.LogLimits.{longest_key};
 ghost use Rattle.hse_fields.specs.LogText.{sized};
 ghost use Rattle.kblock.specs.Entries.{entry_of};
 
@@ -31,7 +32,7 @@ fn put_zeros(into: &mut Vec<u8>, count: u64)
 /// Puts the kind, the number and the key of an entry behind the bytes.
 fn put_key(into: &mut Vec<u8>, kind: u8, number: u64, key: &[u8])
     requires room { length into.old.items + (11 + length key.now) ≤ vec_capacity into.old }
-    requires short { length key.now ≤ 1344 }
+    requires short { length key.now ≤ longest_key }
     ensures items { into.new.items ≡ into.old.items
         ++ (big_bytes 1 kind ++ (big_bytes 8 number ++ sized 2 key.now)) }
     ensures capacity { vec_capacity into.old ≤ vec_capacity into.new }
@@ -58,7 +59,7 @@ fn put_place(into: &mut Vec<u8>, place: ValuePlace)
 pub(crate) fn put_entry(into: &mut Vec<u8>, entry: &KeyEntry<'_>)
     requires room { length into.old.items + length (key_text (entry_of entry.now))
         ≤ vec_capacity into.old }
-    requires short { length entry.now.key.now ≤ 1344 }
+    requires short { length entry.now.key.now ≤ longest_key }
     ensures items { into.new.items ≡ into.old.items ++ key_text (entry_of entry.now) }
     ensures capacity { vec_capacity into.old ≤ vec_capacity into.new }
 {

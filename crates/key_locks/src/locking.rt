@@ -3,6 +3,7 @@ ghost use Rattle.std.specs.Prelude.{◌≡◌, ◌==◌, ◌<◌, ◌≤◌, ◌
 ghost use Rattle.std.specs.Ordering.{is_eq};
 ghost use Rattle.key_locks.specs.declared.name.Name.{Name as a_name};
 ghost use Rattle.hse_rows.specs.writes.Change.{write_of};
+ghost use Rattle.hse_rows.specs.writes.Lengths.{IsPrefixLength};
 ghost use Rattle.key_locks.specs.Answers.{IsAnswer};
 ghost use Rattle.key_locks.specs.Held.{held_by};
 ghost use Rattle.key_locks.specs.Locks.{commits_of, locked, spare_of, writes_of};
@@ -27,7 +28,8 @@ use std::collections::BTreeMap;
 /// The name that a change of a store locks.
 fn name_of(alloc: Global, store: StoreId, change: &Change) -> Result<Name, NoMemory>
     ensures name { IfOk result (λ name. name ≡ name_of store change.now) }
-    ensures within { IfOk result (λ name. name.is_key ≡ false → (0 < length name.bytes) × (length name.bytes ≤ 32)) }
+    ensures within { IfOk result (λ name. name.is_key ≡ false
+        → IsPrefixLength (length name.bytes)) }
 {
     match change {
         Change::Put(key, _) => Ok(Name {
@@ -88,7 +90,7 @@ fn add_name(
 
 /// The length of a prefix is in use.
 fn use_length(lengths: &mut [bool; 33], name: &Name)
-    requires { name.now.is_key ≡ false → (0 < length name.now.bytes) × (length name.now.bytes ≤ 32) }
+    requires { name.now.is_key ≡ false → IsPrefixLength (length name.now.bytes) }
     ensures used { name.now.is_key ≡ false → IsUsed lengths.new (length name.now.bytes) }
     ensures others { (n : ℕ) → IsUsed lengths.old n → IsUsed lengths.new n }
 {

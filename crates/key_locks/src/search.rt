@@ -1,5 +1,6 @@
 //! The locks of all names whose writes meet a write.
 ghost use Rattle.std.specs.Prelude.{◌≡◌, ◌<◌, ◌≤◌, false, true, length, IfOk};
+ghost use Rattle.hse_rows.specs.writes.Lengths.{IsKeyLength};
 ghost use Rattle.key_locks.specs.Seen.{begins_with, seen_below, IsBelow, IsMet, IsOwn, IsSeen, KnowsLengths};
 
 use crate::lock::{Lock, Seen};
@@ -45,7 +46,7 @@ fn own(table: &BTreeMap<Name, Lock>, name: &Name, txn: u64) -> Seen
 
 /// A key of these bytes.
 pub(crate) fn key_of(alloc: Global, bytes: &[u8]) -> Result<Key, NoMemory>
-    requires { (0 < length bytes.now) × (length bytes.now ≤ 1344) }
+    requires { IsKeyLength (length bytes.now) }
     ensures { IfOk result (λ key. key ≡ bytes.now) }
 {
     match Key::new(alloc, bytes) {

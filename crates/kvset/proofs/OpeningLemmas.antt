@@ -2,6 +2,7 @@
 use Rattle.std.proofs.Common.{◌≡◌, ◌∙◌, ℕ, List, [], ◌∷◌, ◌++◌, map, Option, Some, None, Result, Ok, Err, refl, sym, ap, append_assoc}
 use Rattle.std.proofs.lemmas.List.{append-nil, map_push}
 use Rattle.hse_fields.specs.BlockText.{KeyEntry, PrefixEntry}
+use Rattle.hse_rows.specs.writes.Lengths.{longest_value_in}
 use Rattle.hse_fields.specs.BlockReading.{key_block_of, last_key, prefix_block_of, value_block_of}
 use Rattle.prefix_delete.specs.declared.entry.Entry.{Entry}
 use Rattle.prefix_delete.specs.Blocks.{in_block, of_block, last_prefix, Adds}
@@ -81,26 +82,26 @@ prefixes_are_done old blocks total none so_far =
 
 -- ---- values
 
-value_read : (front : List (List (List ℕ))) (block : Block) (rest : List Block) (values : List (List ℕ)) → value_block_of block.bytes.items ≡ Ok values
-    → with_front front (values_of (block ∷ rest)) ≡ with_front (front ++ values ∷ []) (values_of rest)
+value_read : (slot : ℕ) (front : List (List (List ℕ))) (block : Block) (rest : List Block) (values : List (List ℕ)) → value_block_of (longest_value_in slot) block.bytes.items ≡ Ok values
+    → with_front front (values_of slot (block ∷ rest)) ≡ with_front (front ++ values ∷ []) (values_of slot rest)
 unfolding values_of
-value_read front block rest values e = rw e (regroup front (values ∷ []) (values_of rest))
+value_read slot front block rest values e = rw e (regroup front (values ∷ []) (values_of slot rest))
 
-pub values_go_on : (front : List (List (List ℕ))) (block : Block) (rest : List Block) (values : List (List ℕ)) (total : Result (List (List (List ℕ))) (ℕ × ℕ))
-    → value_block_of block.bytes.items ≡ Ok values → with_front front (values_of (block ∷ rest)) ≡ total
-    → with_front (front ++ values ∷ []) (values_of rest) ≡ total
-values_go_on front block rest values total e so_far = sym (value_read front block rest values e) ∙ so_far
+pub values_go_on : (slot : ℕ) (front : List (List (List ℕ))) (block : Block) (rest : List Block) (values : List (List ℕ)) (total : Result (List (List (List ℕ))) (ℕ × ℕ))
+    → value_block_of (longest_value_in slot) block.bytes.items ≡ Ok values → with_front front (values_of slot (block ∷ rest)) ≡ total
+    → with_front (front ++ values ∷ []) (values_of slot rest) ≡ total
+values_go_on slot front block rest values total e so_far = sym (value_read slot front block rest values e) ∙ so_far
 
-pub values_stop : (front : List (List (List ℕ))) (block : Block) (rest : List Block) (place : ℕ) (total : Result (List (List (List ℕ))) (ℕ × ℕ))
-    → value_block_of block.bytes.items ≡ Err place → with_front front (values_of (block ∷ rest)) ≡ total → total ≡ Err (block.slot, place)
+pub values_stop : (slot : ℕ) (front : List (List (List ℕ))) (block : Block) (rest : List Block) (place : ℕ) (total : Result (List (List (List ℕ))) (ℕ × ℕ))
+    → value_block_of (longest_value_in slot) block.bytes.items ≡ Err place → with_front front (values_of slot (block ∷ rest)) ≡ total → total ≡ Err (block.slot, place)
 unfolding values_of
-values_stop front block rest place total e so_far =
-    let one : with_front front (values_of (block ∷ rest)) ≡ Err (block.slot, place) = rw e refl in
+values_stop slot front block rest place total e so_far =
+    let one : with_front front (values_of slot (block ∷ rest)) ≡ Err (block.slot, place) = rw e refl in
     sym so_far ∙ one
 
-pub values_are_done : (front : List (List (List ℕ))) (total : Result (List (List (List ℕ))) (ℕ × ℕ)) → with_front front (values_of []) ≡ total → total ≡ Ok front
+pub values_are_done : (slot : ℕ) (front : List (List (List ℕ))) (total : Result (List (List (List ℕ))) (ℕ × ℕ)) → with_front front (values_of slot []) ≡ total → total ≡ Ok front
 unfolding values_of
-values_are_done front total so_far = sym so_far ∙ ap (λ (l : List (List (List ℕ))). Ok l) (append-nil front)
+values_are_done slot front total so_far = sym so_far ∙ ap (λ (l : List (List (List ℕ))). Ok l) (append-nil front)
 
 -- ---- keys
 

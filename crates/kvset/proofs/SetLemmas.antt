@@ -2,6 +2,7 @@
 use Rattle.std.proofs.Common.{◌≡◌, ◌∙◌, true, false, Bool, ℕ, suc, ◌+◌, List, [], ◌∷◌, ◌++◌, length, map, None, Result, Ok, Err, refl, sym, ap, arith, length-append}
 use Rattle.std.specs.List.{flat_map}
 use Rattle.hse_fields.specs.BlockText.{header_size, KeyEntry, PrefixEntry, key_text}
+use Rattle.hse_rows.specs.writes.Lengths.{longest_value_in}
 use Rattle.hse_fields.specs.BlockReading.{value_block_of}
 use Rattle.kblock.specs.Opened.{entries_of}
 use Rattle.kblock.specs.Walking.{placed_keys, placed_pages}
@@ -152,27 +153,27 @@ ok_values x y e = cc
 abbrev opened : Contents → Result Contents (ℕ × ℕ)
 opened x = Ok x
 
-pub values_counted : (vs : List Block) (values : List (List (List ℕ))) → values_of vs ≡ Ok values → length values ≡ length vs
+pub values_counted : (slot : ℕ) (vs : List Block) (values : List (List (List ℕ))) → values_of slot vs ≡ Ok values → length values ≡ length vs
 unfolding values_of
-values_counted [] values e = ap length (sym (ok_values [] values e))
-values_counted (b ∷ bs) values e =
-    let a = bind_ok (in_slot b.slot (value_block_of b.bytes.items)) (λ v. values_of bs >>= λ others. Ok (v ∷ others)) values e in
+values_counted slot [] values e = ap length (sym (ok_values [] values e))
+values_counted slot (b ∷ bs) values e =
+    let a = bind_ok (in_slot b.slot (value_block_of (longest_value_in slot) b.bytes.items)) (λ v. values_of slot bs >>= λ others. Ok (v ∷ others)) values e in
     let more = others_of bs a.0 values a.1 in
-    ap length (sym more.1) ∙ ap suc (values_counted bs more.0 more.2)
+    ap length (sym more.1) ∙ ap suc (values_counted slot bs more.0 more.2)
   where
-    others_of : (bs : List Block) (v : List (List ℕ)) (values : List (List (List ℕ))) → (values_of bs >>= λ others. Ok (v ∷ others)) ≡ Ok values
-        → (others : List (List (List ℕ))) × (v ∷ others ≡ values) × (values_of bs ≡ Ok others)
-    others_of bs v values e = by (values_of bs) refl e
+    others_of : (bs : List Block) (v : List (List ℕ)) (values : List (List (List ℕ))) → (values_of slot bs >>= λ others. Ok (v ∷ others)) ≡ Ok values
+        → (others : List (List (List ℕ))) × (v ∷ others ≡ values) × (values_of slot bs ≡ Ok others)
+    others_of bs v values e = by (values_of slot bs) refl e
       where
-        by : (r : Result (List (List (List ℕ))) (ℕ × ℕ)) → values_of bs ≡ r → (r >>= λ others. Ok (v ∷ others)) ≡ Ok values
-            → (others : List (List (List ℕ))) × (v ∷ others ≡ values) × (values_of bs ≡ Ok others)
+        by : (r : Result (List (List (List ℕ))) (ℕ × ℕ)) → values_of slot bs ≡ r → (r >>= λ others. Ok (v ∷ others)) ≡ Ok values
+            → (others : List (List (List ℕ))) × (v ∷ others ≡ values) × (values_of slot bs ≡ Ok others)
         by (Ok others) is e = (others, ok_values (v ∷ others) values e, is)
         by (Err spot) is e = absurd cc
 
 pub slots_counted : {X : Type 0} (value : X → List (List ℕ)) (given : Values) (blocks : List X) → AreSlotted given → values_given given ≡ Ok (map value blocks)
     → length (slots_given given) ≡ length blocks
-slots_counted value (Unread read) blocks slotted e =
-    map_long (λ (b : Block). b.slot) read.items ∙ sym (values_counted read.items (map value blocks) e) ∙ map_long value blocks
+slots_counted value (Unread slot read) blocks slotted e =
+    map_long (λ (b : Block). b.slot) read.items ∙ sym (values_counted slot read.items (map value blocks) e) ∙ map_long value blocks
 slots_counted value (Open slots opened) blocks slotted e =
     slotted ∙ sym (map_long arc_value opened.items) ∙ ap length (ok_values (map arc_value opened.items) (map value blocks) e) ∙ map_long value blocks
 

@@ -19,16 +19,16 @@ own_value_slots parts = drop (parts.prefix_blocks + length parts.keys.items) par
 
 -- the slots and the values of blocks that are read or open
 abbrev pub slots_given : Values → List ℕ
-slots_given (Unread blocks) = slots_of blocks.items
+slots_given (Unread slot blocks) = slots_of blocks.items
 slots_given (Open slots blocks) = slots.items
 
 abbrev pub values_given : Values → Result (List (List (List ℕ))) (ℕ × ℕ)
-values_given (Unread blocks) = values_of blocks.items
+values_given (Unread slot blocks) = values_of slot blocks.items
 values_given (Open slots blocks) = Ok (map arc_value blocks.items)
 
 -- each open block stands in a slot
 abbrev pub AreSlotted : Values → Type 0
-AreSlotted (Unread blocks) = Unit {0}
+AreSlotted (Unread slot blocks) = Unit {0}
 AreSlotted (Open slots blocks) = length slots.items ≡ length blocks.items
 
 abbrev pub rows_in : Parts → List Row

@@ -3,6 +3,7 @@
 use Rattle.std.specs.Prelude.{◌≡◌, ℕ, ◌+◌, ◌≤◌, ◌^◌, List, [], ◌∷◌, ◌++◌, length, map, drop, Option, Some, None, Result, Ok, Err, if◌then◌else◌}
 use Rattle.std.specs.List.{flat_map}
 use denote.Ref.{Bor}
+use Rattle.hse_rows.specs.writes.Lengths.{longest_value_in}
 use Rattle.hse_fields.specs.BlockText.{header_size, KeyEntry, PrefixEntry}
 use Rattle.hse_fields.specs.BlockReading.{key_block_of, last_key, prefix_block_of, value_block_of}
 use Rattle.kblock.specs.Opened.{entries_of}
@@ -47,12 +48,12 @@ pages_of last (block ∷ blocks) = do
   others ← pages_of (last_key last (entries_of pages)) blocks
   Ok (pages ∷ others)
 
--- the values of blocks
-unfoldable pub values_of : List Block → Result (List (List (List ℕ))) (ℕ × ℕ)
-values_of [] = Ok []
-values_of (block ∷ blocks) = do
-  values ← in_slot block.slot (value_block_of block.bytes.items)
-  others ← values_of blocks
+-- the values of blocks, of a device with slots of this size
+unfoldable pub values_of : ℕ → List Block → Result (List (List (List ℕ))) (ℕ × ℕ)
+values_of slot_size [] = Ok []
+values_of slot_size (block ∷ blocks) = do
+  values ← in_slot block.slot (value_block_of (longest_value_in slot_size) block.bytes.items)
+  others ← values_of slot_size blocks
   Ok (values ∷ others)
 
 -- The values that placed keys of a slot name are there. One that is not is refused at the field of its block.
@@ -96,10 +97,10 @@ set_over prefix_blocks key_blocks value_slots read = do
     values = values;
   })
 
--- a set of blocks of its own
-abbrev pub set_of : List Block → List Block → List Block → Result Contents (ℕ × ℕ)
-set_of prefix_blocks key_blocks value_blocks =
-    set_over prefix_blocks key_blocks (slots_of value_blocks) (values_of value_blocks)
+-- a set of blocks of its own, on a device with slots of this size
+abbrev pub set_of : ℕ → List Block → List Block → List Block → Result Contents (ℕ × ℕ)
+set_of slot_size prefix_blocks key_blocks value_blocks =
+    set_over prefix_blocks key_blocks (slots_of value_blocks) (values_of slot_size value_blocks)
 
 -- the slots of a set's values, behind those of its prefix deletes and keys
 abbrev pub value_slots : Contents → List ℕ

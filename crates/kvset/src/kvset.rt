@@ -44,21 +44,25 @@ fn made(alloc: Global, parts: Parts) -> Result<Kvset, NoMemory>
     Ok(Kvset { parts })
 }
 
-/// Opens a set by its blocks. `Damaged` has the slot and the place of the first field that is
-/// refused: block by block the prefix deletes, then the keys, then the values; then, key by key,
-/// the block of a value that no entry of that length begins at. Prefixes and keys ascend from block
-/// to block. What the set keeps beside its blocks is a list of its prefix deletes and a word or two
-/// for each block.
+/// Opens a set by its blocks, those of a device with slots of so many bytes. `Damaged` has the slot
+/// and the place of the first field that is refused: block by block the prefix deletes, then the
+/// keys, then the values, of which each has at most 1,048,576 bytes and 64 fewer than a slot; then,
+/// key by key, the block of a value that no entry of that length begins at. Prefixes and keys ascend
+/// from block to block. What the set keeps beside its blocks is a list of its prefix deletes and a
+/// word or two for each block.
 pub fn open_set(
     alloc: Global,
+    slot: u64,
     prefixes: Vec<Block>,
     keys: Vec<Block>,
     values: Vec<Block>,
 ) -> Result<Kvset, SetFault>
-    ensures read { IfOk result (λ set. set_of prefixes.items keys.items values.items ≡ Ok set) }
-    ensures refused { IfErr result (Refuses (set_of prefixes.items keys.items values.items)) }
+    ensures read { IfOk result (λ set.
+        set_of slot prefixes.items keys.items values.items ≡ Ok set) }
+    ensures refused { IfErr result
+        (Refuses (set_of slot prefixes.items keys.items values.items)) }
 {
-    let parts = parts_of(alloc, prefixes, keys, Values::Unread(values))?;
+    let parts = parts_of(alloc, prefixes, keys, Values::Unread(slot, values))?;
     Ok(made(alloc, parts)?)
 }
 

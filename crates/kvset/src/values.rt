@@ -15,8 +15,8 @@ use vblock::{ValueBlock, open_value_block};
 /// The blocks of a set's values.
 #[derive(Drop)]
 pub(crate) enum Values {
-    /// They are to be read.
-    Unread(Vec<Block>),
+    /// They are to be read, of a device with slots of so many bytes.
+    Unread(u64, Vec<Block>),
     /// They are open already; the slots are theirs.
     Open(Vec<u32>, Vec<Arc<ValueBlock>>),
 }
@@ -36,15 +36,19 @@ pub(crate) fn put<T: Drop>(parts: &mut Vec<T>, part: T) -> Result<(), NoMemory>
     Ok(())
 }
 
-/// The values of these blocks.
-fn read_values(alloc: Global, blocks: Vec<Block>) -> Result<Vec<Arc<ValueBlock>>, SetFault>
+/// The values of these blocks, of a device with slots of so many bytes.
+fn read_values(
+    alloc: Global,
+    slot: u64,
+    blocks: Vec<Block>,
+) -> Result<Vec<Arc<ValueBlock>>, SetFault>
     ensures read { IfOk result (λ opened.
-        values_of blocks.items ≡ Ok (map arc_value opened.items)) }
-    ensures refused { IfErr result (Refuses (values_of blocks.items)) }
+        values_of slot blocks.items ≡ Ok (map arc_value opened.items)) }
+    ensures refused { IfErr result (Refuses (values_of slot blocks.items)) }
 {
     let mut opened = Vec::new(alloc);
     for block in blocks {
-        match open_value_block(block.bytes) {
+        match open_value_block(slot, block.bytes) {
             Ok(values) => put(&mut opened, owned(alloc, values)?)?,
             Err(Damaged(place)) => return Err(SetFault::Damaged(block.slot, place)),
         }
@@ -58,7 +62,7 @@ pub(crate) fn open_values(alloc: Global, values: Values) -> Result<Vec<Arc<Value
     ensures refused { IfErr result (Refuses (values_given values)) }
 {
     match values {
-        Values::Unread(blocks) => read_values(alloc, blocks),
+        Values::Unread(slot, blocks) => read_values(alloc, slot, blocks),
         Values::Open(_, blocks) => Ok(blocks),
     }
 }
@@ -78,7 +82,7 @@ pub(crate) fn put_value_slots(slots: &mut Vec<u32>, values: &Values) -> Result<(
     ensures { OnOk result (slots.new.items ≡ slots.old.items ++ slots_given values.now) }
 {
     match values {
-        Values::Unread(blocks) => put_slots(slots, blocks)?,
+        Values::Unread(_, blocks) => put_slots(slots, blocks)?,
         Values::Open(theirs, _) => slots.extend_from_slice(theirs)?,
     }
     Ok(())

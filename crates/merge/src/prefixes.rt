@@ -6,7 +6,7 @@ ghost use Rattle.prefix_delete.specs.Prefixes.{entry_of, with_entry};
 ghost use Rattle.merge.specs.Deletes.{with_deletes, all_deletes};
 
 use hse_io::NoMemory;
-use hse_rows::{ChangeRef, Prefix, RowSet};
+use hse_rows::{ChangeRef, LONGEST_PREFIX, Prefix, RowSet};
 use prefix_delete::PrefixList;
 use std::alloc::Global;
 
@@ -15,7 +15,7 @@ fn add(alloc: Global, list: &mut PrefixList, prefix: &[u8], number: u64) -> Resu
     requires { IsPrefixLength (length prefix.now) }
     ensures { OnOk result (list.new ≡ with_entry list.old (entry_of prefix.now number)) }
 {
-    match Prefix::new(alloc, prefix, 32) {
+    match Prefix::new(alloc, prefix, LONGEST_PREFIX as u8) {
         Ok(prefix) => list.add(prefix, number),
         Err(_) => Err(NoMemory),
     }

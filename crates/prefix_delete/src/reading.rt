@@ -1,19 +1,20 @@
 //! Reads the entries of a block of prefix deletes.
 ghost use Rattle.std.specs.Prelude.{◌≡◌, ◌≤◌, length, map, IfErr};
 ghost use Rattle.hse_fields.specs.BlockReading.{prefix_of, prefixes_of};
+ghost use Rattle.hse_rows.specs.writes.Lengths.{longest_prefix};
 ghost use Rattle.prefix_delete.specs.Blocks.{in_block, last_prefix};
 ghost use Rattle.prefix_delete.specs.Read.{Gives};
 ghost use Rattle.hse_fields.specs.BlockGiven.{lent};
 
 use crate::entry::Entry;
-use hse_fields::{LONGEST_PREFIX, Refusal, split_name, split_u64};
-use hse_rows::{Prefix, PrefixFault};
+use hse_fields::{Refusal, split_name, split_u64};
+use hse_rows::{LONGEST_PREFIX, Prefix, PrefixFault};
 use std::alloc::Global;
 
 /// A prefix of 1 to 32 bytes.
 fn prefix(alloc: Global, bytes: &[u8]) -> Result<Prefix, Refusal>
     requires some { 1 ≤ length bytes.now }
-    requires short { length bytes.now ≤ 32 }
+    requires short { length bytes.now ≤ longest_prefix }
     ensures { Gives (λ prefix. prefix) result (Ok bytes.now) }
 {
     match Prefix::new(alloc, bytes, LONGEST_PREFIX as u8) {
@@ -34,7 +35,7 @@ fn entry<'b>(
 {
     let (number, behind) = split_u64(bytes)?;
     let left = bytes.len() as u64;
-    let (name, rest) = split_name(behind, 1, LONGEST_PREFIX, last, left)?;
+    let (name, rest) = split_name(behind, 1, LONGEST_PREFIX as u64, last, left)?;
     let prefix = prefix(alloc, name)?;
     Ok((Entry { prefix, number }, rest))
 }

@@ -1,10 +1,12 @@
 -- Blocks that are packed have the form of blocks.
-use Rattle.std.proofs.Common.{◌≡◌, ℕ, ◌+◌, ◌*◌, ◌-◌, ◌^◌, ◌≤◌, nat_le, Bool, true, false, cond, List, [], ◌∷◌, ◌++◌, length, refl, sym, subst, arith, length-append}
+use Rattle.std.proofs.Common.{◌≡◌, ℕ, ◌+◌, ◌*◌, ◌-◌, ◌^◌, ◌≤◌, min, nat_le, Bool, true, false, cond, List, [], ◌∷◌, ◌++◌, length, refl, sym, subst, arith, length-append}
 use Rattle.std.specs.List.{AllByRecursion, flat_map, sum_by}
+use Rattle.std.proofs.Math.Nat.{min-le_right}
 use Rattle.std.proofs.lemmas.Bool.{leb-true}
 use Rattle.std.proofs.lemmas.List.Sums.{sum_by_push, sum_by-cons}
 use Rattle.sorted_lists.specs.laws.Lists.{each-front, each-rest, each-weaker}
 use Rattle.hse_rows.specs.rows.Packing.{filled, filled_from, header_bytes}
+use Rattle.hse_rows.specs.writes.Lengths.{longest_value_in}
 use Rattle.hse_fields.specs.BlockForm.{AreValues}
 use Rattle.set_build.specs.SetText.{value_bytes, value_blocks_of}
 use Rattle.set_build.specs.Reading.{MayWrite}
@@ -56,24 +58,27 @@ four-each [] = omega arith
 four-each (v ∷ vs) =
     omega (arith, four-each vs, sum_by-cons value_bytes v vs, one-long v)
 
-small-enough : (slot : ℕ) (v : List ℕ) → 20 + length v ≤ slot → value_bytes v ≤ slot - header_bytes
-small-enough slot v fits = omega (arith, fits, one-long v)
+small-enough : (slot : ℕ) (v : List ℕ) → 2 ^ 16 ≤ slot → MayWrite slot v → value_bytes v ≤ slot - header_bytes
+small-enough slot v large fits =
+    let short : length v ≤ min 1048576 (slot - 64) = fits in
+    let less = min-le_right 1048576 (slot - 64) in
+    omega (arith, large, short, less, one-long v)
 
-pub values-fit : (slot : ℕ) (vs : List (List ℕ)) → AllByRecursion (MayWrite slot) vs
+pub values-fit : (slot : ℕ) (vs : List (List ℕ)) → 2 ^ 16 ≤ slot → AllByRecursion (MayWrite slot) vs
     → AllByRecursion (FitsBlock value_bytes (slot - header_bytes)) (value_blocks_of slot vs)
-values-fit slot vs may =
-    filled-fits value_bytes (slot - header_bytes) vs (each-weaker (λ v m. small-enough slot v m.1) vs may)
+values-fit slot vs large may =
+    filled-fits value_bytes (slot - header_bytes) vs (each-weaker (λ v m. small-enough slot v large m) vs may)
 
 pub values-formed : (slot : ℕ) (vs : List (List ℕ)) → 2 ^ 16 ≤ slot → slot ≤ 2 ^ 25 → AllByRecursion (MayWrite slot) vs
-    → AllByRecursion AreValues (value_blocks_of slot vs)
+    → AllByRecursion (AreValues (longest_value_in slot)) (value_blocks_of slot vs)
 values-formed slot vs large small may =
     each-weaker (λ block h. record {
       some = h.0.some;
       counted = omega (arith, four-each block, h.0.fits, small);
-      each = each-weaker (λ v m. m.0) block h.1;
+      each = h.1;
       within = omega (arith, text-long block, h.0.fits, small, large);
     }) (value_blocks_of slot vs) (
     each-both (FitsBlock value_bytes (slot - header_bytes)) (AllByRecursion (MayWrite slot)) (value_blocks_of slot vs)
-    (values-fit slot vs may)
+    (values-fit slot vs large may)
     (filled-each (MayWrite slot) value_bytes (slot - header_bytes) vs may)
     )

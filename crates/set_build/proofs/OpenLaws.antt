@@ -5,6 +5,7 @@ use Rattle.std.proofs.lemmas.Grind.{flat_map-append}
 use Rattle.sorted_lists.specs.laws.Lists.{each-front, each-rest}
 use Rattle.hse_rows.specs.declared.row.Row.{Row}
 use Rattle.hse_rows.specs.rows.Packing.{header_bytes, page_bytes}
+use Rattle.hse_rows.specs.writes.Lengths.{longest_value_in}
 use Rattle.hse_fields.specs.declared.block.ValuePlace.{ValuePlace}
 use Rattle.hse_fields.specs.BlockForm.{ArePrefixEntries, AreValues}
 use Rattle.hse_fields.specs.BlockReading.{key_block_of, prefix_block_of, value_block_of}
@@ -28,7 +29,7 @@ use Rattle.set_build.proofs.SetForm.{blocks_by, set-formed}
 -- ---- each block is read as it was packed
 
 abbrev pub ValuesRead : Type 0
-ValuesRead = (values : List (List ℕ)) (rest : List ℕ) → AreValues values → value_block_of (value_block_text values ++ rest) ≡ Ok values
+ValuesRead = (most : ℕ) (values : List (List ℕ)) (rest : List ℕ) → AreValues most values → value_block_of most (value_block_text values ++ rest) ≡ Ok values
 
 abbrev pub PrefixesRead : Type 0
 PrefixesRead = (last : Option (List ℕ)) (entries : List PrefixEntry) (rest : List ℕ) → ArePrefixEntries last entries
@@ -38,15 +39,16 @@ abbrev pub KeysRead : Type 0
 KeysRead = (last : Option (List ℕ)) (pages : List (List KeyEntry)) (rest : List ℕ) → AreKeyPages last pages
     → key_block_of last (key_block_text pages ++ rest) ≡ Ok pages
 
-values-read : ValuesRead → (blocks : List (List (List ℕ))) (slots : List Block) → AllByRecursion AreValues blocks → ArePut (map value_block_text blocks) slots
-    → reading.values_of slots ≡ Ok blocks
+values-read : ValuesRead → (size : ℕ) (blocks : List (List (List ℕ))) (slots : List Block) → AllByRecursion (AreValues (longest_value_in size)) blocks
+    → ArePut (map value_block_text blocks) slots → reading.values_of size slots ≡ Ok blocks
 unfolding reading.values_of
-values-read law [] [] are put = refl
-values-read law [] (s ∷ ss) are put = absurd put
-values-read law (b ∷ bs) [] are put = absurd put
-values-read law (b ∷ bs) (s ∷ ss) are put =
-    let here : value_block_of s.bytes.items ≡ Ok b = ap value_block_of put.0.1 ∙ law b put.0.0 are.0 in
-    rw (here, values-read law bs ss are.1 put.1) refl
+values-read law size [] [] are put = refl
+values-read law size [] (s ∷ ss) are put = absurd put
+values-read law size (b ∷ bs) [] are put = absurd put
+values-read law size (b ∷ bs) (s ∷ ss) are put =
+    let here : value_block_of (longest_value_in size) s.bytes.items ≡ Ok b =
+    ap (value_block_of (longest_value_in size)) put.0.1 ∙ law (longest_value_in size) b put.0.0 are.0 in
+    rw (here, values-read law size bs ss are.1 put.1) refl
 
 keys-read : KeysRead → (last : Option (List ℕ)) (blocks : List (List (List KeyEntry))) (slots : List Block) → AreSetKeys last blocks → ArePut (map key_block_text blocks) slots
     → reading.pages_of last slots ≡ Ok blocks
@@ -156,10 +158,10 @@ module _ (prefix_law : PrefixesRead) (key_law : KeysRead) (p : Pushed) (may : Ma
         rows = ap (λ (l : List KeyEntry). set_rows (map of_block (prefix_entries p.rows)) l values) flat ∙ rows-again values p.rows (all_places p) may.rows.rising lead;
       }
 
-  pub set-opened : ValuesRead → p.values ≡ true → (vs : List Block) → ArePut (text_of p).values vs → HasRows p.rows (set_of ps ks vs)
+  pub set-opened : ValuesRead → p.values ≡ true → (vs : List Block) → ArePut (text_of p).values vs → HasRows p.rows (set_of p.slot_size ps ks vs)
   set-opened value_law writes vs values_put =
-      over (slots_of vs) (reading.values_of vs) (values_by_block p)
-      (values-read value_law (values_by_block p) vs (set-formed p may).values values_put)
+      over (slots_of vs) (reading.values_of p.slot_size vs) (values_by_block p)
+      (values-read value_law p.slot_size (values_by_block p) vs (set-formed p may).values values_put)
       (lead-by p.slot_size p.values p.rows p.places writes)
 
   pub set-opened-over : p.values ≡ false → (slots : List ℕ) (values : List (List (List ℕ))) → LeadTo values p.places p.rows

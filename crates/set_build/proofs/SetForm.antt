@@ -4,6 +4,7 @@ use Rattle.std.specs.List.{AllByRecursion}
 use Rattle.std.proofs.lemmas.List.{length-map}
 use Rattle.hse_rows.specs.declared.row.Row.{Row}
 use Rattle.hse_fields.specs.declared.block.ValuePlace.{ValuePlace}
+use Rattle.hse_rows.specs.writes.Lengths.{longest_value_in}
 use Rattle.hse_fields.specs.BlockForm.{AreValues}
 use Rattle.set_build.specs.SetText.{Pushed, value_of, values_of, value_blocks_of, places_of, all_places}
 use Rattle.set_build.specs.Packs.{puts_in}
@@ -19,7 +20,7 @@ abbrev pub blocks_by : ℕ → Bool → List (List ℕ) → List (List (List ℕ
 blocks_by slot writes values = cond writes (value_blocks_of slot values) []
 
 formed-by : (slot : ℕ) (writes : Bool) (values : List (List ℕ)) → 2 ^ 16 ≤ slot → slot ≤ 2 ^ 25
-    → (writes ≡ true → AllByRecursion (MayWrite slot) values) → AllByRecursion AreValues (blocks_by slot writes values)
+    → (writes ≡ true → AllByRecursion (MayWrite slot) values) → AllByRecursion (AreValues (longest_value_in slot)) (blocks_by slot writes values)
 formed-by slot true values large small may = values-formed slot values large small (may refl)
 formed-by slot false values large small may = tt
 
@@ -39,7 +40,7 @@ said-by : (slot : ℕ) (writes : Bool) (values : List (List ℕ)) (places : List
     → (writes ≡ true → AllByRecursion (MayWrite slot) values) → length (blocks_by slot writes values) ≤ 2 ^ 32
     → (writes ≡ false → AllByRecursion CanBeSaid places) → AllByRecursion CanBeSaid (places_by writes (blocks_by slot writes values) places)
 said-by slot true values places large small may few said =
-    places-say slot 0 (value_blocks_of slot values) large small (omega (arith, few)) (values-fit slot values (may refl))
+    places-say slot 0 (value_blocks_of slot values) large small (omega (arith, few)) (values-fit slot values large (may refl))
 said-by slot false values places large small may few said = said refl
 
 pub set-formed : (p : Pushed) → MayBeWritten p → AreFormed p

@@ -1,8 +1,8 @@
 -- What is read again of the blocks of a set.
-use Rattle.std.specs.Prelude.{◌≡◌, ℕ, ◌+◌, ◌^◌, ◌<◌, ◌≤◌, true, false, List, [], ◌∷◌, ◌++◌, length, map, Option, Some, None, Result, Ok}
+use Rattle.std.specs.Prelude.{◌≡◌, ℕ, ◌^◌, ◌<◌, ◌≤◌, true, false, List, [], ◌∷◌, ◌++◌, length, map, Option, Some, None, Result, Ok}
 use Rattle.std.specs.List.{AllByRecursion, flat_map}
 use Rattle.hse_fields.specs.declared.block.ValuePlace.{ValuePlace}
-use Rattle.hse_fields.specs.LogLimits.{value_limit}
+use Rattle.hse_rows.specs.writes.Lengths.{longest_value_in}
 use Rattle.hse_fields.specs.BlockText.{KeyEntry, PrefixEntry}
 use Rattle.hse_fields.specs.BlockReading.{last_key}
 use Rattle.hse_fields.specs.BlockForm.{ArePrefixEntries, AreValues}
@@ -19,7 +19,7 @@ use Rattle.set_build.specs.Builders.{Pairs}
 
 -- a value that may be written to blocks of such a size
 abbrev pub MayWrite : ℕ → List ℕ → Type 0
-MayWrite slot_size value = (length value ≤ value_limit) × (20 + length value ≤ slot_size)
+MayWrite slot_size value = length value ≤ longest_value_in slot_size
 
 -- the last key of a block's pages, or else the one before them
 abbrev pub last_in_block : Option (List ℕ) → List (List KeyEntry) → Option (List ℕ)
@@ -57,7 +57,7 @@ pub record MayBeWritten (p : Pushed) : Type 0 where
 pub record AreFormed (p : Pushed) : Type 0 where
   pub prefixes : AreSetPrefixes None (prefix_blocks_of p.slot_size (prefix_entries p.rows))
   pub keys : AreSetKeys None (key_blocks_of p.slot_size (key_entries p))
-  pub values : AllByRecursion AreValues (values_by_block p)
+  pub values : AllByRecursion (AreValues (longest_value_in p.slot_size)) (values_by_block p)
 
 -- ---- packed sets in slots
 

@@ -2,6 +2,7 @@
 ghost use Rattle.std.specs.Prelude.{◌≡◌, ◌≤◌, ◌^◌, ◌++◌, ◌∷◌, [], ℕ, List, length, map, IfOk, OnOk, OnErr, MatchBool, false};
 ghost use Rattle.kblock.specs.Building.{Builds};
 ghost use Rattle.kblock.specs.Entries.{entry_of};
+ghost use Rattle.hse_rows.specs.writes.Lengths.{longest_key};
 ghost use Rattle.set_build.specs.Builders.{HoldKeys, OpenBlock, block_bytes, goes_in_last, has_room_for_key, with_key};
 ghost use Rattle.set_build.specs.Packs.{bytes_of};
 
@@ -19,7 +20,7 @@ pub(crate) fn push_key(
     requires large { 2 ^ 16 ≤ slot }
     requires small { slot ≤ 2 ^ 25 }
     requires some { 1 ≤ length entry.now.key.now }
-    requires short { length entry.now.key.now ≤ 1344 }
+    requires short { length entry.now.key.now ≤ longest_key }
     ensures added { (held : List OpenBlock) → HoldKeys slot held blocks.old.items
         → OnOk result (HoldKeys slot (with_key slot held (entry_of entry.now)) blocks.new.items) }
     ensures unchanged { OnErr result (blocks.new.items ≡ blocks.old.items) }
@@ -36,7 +37,7 @@ pub(crate) fn push_key(
 fn push_in_last(blocks: &mut Vec<KeyBlockBuilder>, slot: u64, entry: &KeyEntry<'_>) -> bool
     requires held { (held : List OpenBlock) × HoldKeys slot held blocks.old.items }
     requires some { 1 ≤ length entry.now.key.now }
-    requires short { length entry.now.key.now ≤ 1344 }
+    requires short { length entry.now.key.now ≤ longest_key }
     ensures added { (held : List OpenBlock) → HoldKeys slot held blocks.old.items → MatchBool result
         (HoldKeys slot (with_key slot held (entry_of entry.now)) blocks.new.items)
         (goes_in_last (has_room_for_key slot (entry_of entry.now)) held ≡ false) }
@@ -54,7 +55,7 @@ fn block_of(alloc: Global, slot: u64, entry: &KeyEntry<'_>) -> Result<KeyBlockBu
     requires large { 2 ^ 16 ≤ slot }
     requires small { slot ≤ 2 ^ 25 }
     requires some { 1 ≤ length entry.now.key.now }
-    requires short { length entry.now.key.now ≤ 1344 }
+    requires short { length entry.now.key.now ≤ longest_key }
     ensures { IfOk result (Builds slot [] (entry_of entry.now ∷ [])) }
 {
     let mut block = KeyBlockBuilder::new(alloc, slot)?;

@@ -25,7 +25,8 @@ pub fn packed_sets_are_read()
 pub fn packed_sets_are_opened()
     ensures opened { (p : Pushed) → MayBeWritten p → p.values ≡ true
         → (prefixes keys values : List Block) → IsPut (text_of p) prefixes keys
-        → ArePut (text_of p).values values → HasRows p.rows (set_of prefixes keys values) }
+        → ArePut (text_of p).values values
+        → HasRows p.rows (set_of p.slot_size prefixes keys values) }
     ensures over { (p : Pushed) → MayBeWritten p → p.values ≡ false
         → (prefixes keys : List Block) → IsPut (text_of p) prefixes keys
         → (slots : List ℕ) (values : List (List (List ℕ))) → LeadTo values p.places p.rows

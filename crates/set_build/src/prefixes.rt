@@ -7,9 +7,8 @@ ghost use Rattle.prefix_delete.specs.Blocks.{block_of};
 ghost use Rattle.prefix_delete.specs.Prefixes.{entry_of, with_entry};
 ghost use Rattle.set_build.specs.Packs.{bytes_of, entry_size};
 
-use hse_fields::LONGEST_PREFIX;
 use hse_io::NoMemory;
-use hse_rows::Prefix;
+use hse_rows::{LONGEST_PREFIX, Prefix};
 use prefix_delete::PrefixList;
 use std::alloc::Global;
 

@@ -4,6 +4,7 @@ ghost use Rattle.hse_fields.specs.BlockReading.{key_entry};
 ghost use Rattle.hse_fields.specs.BlockText.{value_block_text};
 ghost use Rattle.kblock.specs.Entries.{entry_of};
 ghost use Rattle.vblock.specs.Building.{Builds};
+ghost use Rattle.hse_rows.specs.writes.Lengths.{longest_key};
 ghost use Rattle.set_build.specs.Builders.{HoldKeys, HoldValues, OpenBlock, entry_behind, goes_in_last, has_room, place_behind, with_key, with_value};
 ghost use Rattle.set_build.specs.Packs.{bytes_of};
 
@@ -29,7 +30,7 @@ pub(crate) fn push_put(
     requires small { slot ≤ 2 ^ 25 }
     requires fits { 20 + length value.now ≤ slot }
     requires some { 1 ≤ length entry.key.now }
-    requires short { length entry.key.now ≤ 1344 }
+    requires short { length entry.key.now ≤ longest_key }
     requires few { length blocks.old.items ≤ 2 ^ 32 }
     ensures added { (held : List (List (List ℕ))) → HoldValues slot held blocks.old.items
         → OnOk result (HoldValues slot (with_value slot held value.now) blocks.new.items) }
@@ -76,7 +77,7 @@ fn push_with_block(
     requires small { slot ≤ 2 ^ 25 }
     requires fits { 20 + length value.now ≤ slot }
     requires some { 1 ≤ length entry.key.now }
-    requires short { length entry.key.now ≤ 1344 }
+    requires short { length entry.key.now ≤ longest_key }
     ensures added { (held : List (List (List ℕ))) → HoldValues slot held blocks.old.items
         → goes_in_last (has_room slot (length value.now)) held ≡ false
         → OnOk result (HoldValues slot (with_value slot held value.now) blocks.new.items) }

@@ -4,7 +4,7 @@ use Rattle.std.specs.Prelude.{is_some, nat_lt, nat_le, ◌&&◌}
 use Rattle.std.proofs.lemmas.Bool.{eqb-true, eq-eqb, ne_eqb}
 use Rattle.std.proofs.lemmas.List.{append-nil, drop-drop}
 use Rattle.hse_fields.specs.Fields.{number_of, bytes_of}
-use Rattle.hse_fields.specs.LogLimits.{value_limit}
+use Rattle.hse_fields.specs.LogLimits.{longest_value}
 use Rattle.hse_fields.specs.LogReading.{◌>>=◌, ensure, size_of, sized_of}
 use Rattle.hse_fields.specs.BlockReading.{body_of, values_of}
 use Rattle.hse_fields.specs.BlockText.{header_size, value_from}
@@ -51,14 +51,14 @@ record HasValue (n : ℕ) (bytes : List ℕ) (x : List (List ℕ) × List ℕ) :
   first : List ℕ × List ℕ
   others : List (List ℕ)
   both : x.0 ≡ first.0 ∷ others
-  value : sized_of 4 0 value_limit bytes ≡ Ok first
-  more : values_of n first.1 ≡ Ok (others, x.1)
+  value : sized_of 4 0 longest_value bytes ≡ Ok first
+  more : values_of longest_value n first.1 ≡ Ok (others, x.1)
 
-first_value : (n : ℕ) (bytes : List ℕ) (x : List (List ℕ) × List ℕ) → values_of (suc n) bytes ≡ Ok x → HasValue n bytes x
+first_value : (n : ℕ) (bytes : List ℕ) (x : List (List ℕ) × List ℕ) → values_of longest_value (suc n) bytes ≡ Ok x → HasValue n bytes x
 unfolding values_of
 first_value n bytes x e =
-    let a = bind_ok (sized_of 4 0 value_limit bytes) (λ first. values_of n first.1 >>= λ others. Ok (first.0 ∷ others.0, others.1)) x e in
-    let b = bind_ok (values_of n a.0.1) (λ others. Ok (a.0.0 ∷ others.0, others.1)) x a.2 in
+    let a = bind_ok (sized_of 4 0 longest_value bytes) (λ first. values_of longest_value n first.1 >>= λ others. Ok (first.0 ∷ others.0, others.1)) x e in
+    let b = bind_ok (values_of longest_value n a.0.1) (λ others. Ok (a.0.0 ∷ others.0, others.1)) x a.2 in
     let is = ok_is (a.0.0 ∷ b.0.0, b.0.1) x b.2 in
     record {
       first = a.0;
@@ -68,7 +68,7 @@ first_value n bytes x e =
       more = b.1 ∙ ap (λ (l : List ℕ). Ok (b.0.0, l)) (ap (λ (p : List (List ℕ) × List ℕ). p.1) is);
     }
 
-no_value : (bytes : List ℕ) (x : List (List ℕ) × List ℕ) → values_of 0 bytes ≡ Ok x → x.0 ≡ []
+no_value : (bytes : List ℕ) (x : List (List ℕ) × List ℕ) → values_of longest_value 0 bytes ≡ Ok x → x.0 ≡ []
 unfolding values_of
 no_value bytes x e = sym (ap (λ (p : List (List ℕ) × List ℕ). p.0) (ok_is ([], bytes) x e))
 
@@ -85,10 +85,10 @@ pub record At (start offset : ℕ) (bytes : List ℕ) (values : List (List ℕ))
   pub low : start ≤ offset
   pub room : offset - start + (4 + length value) ≤ length bytes
   pub bytes_are : value ≡ take (length value) (drop 4 (drop (offset - start) bytes))
-  pub read : value_read (sized_of 4 0 value_limit (drop (offset - start) bytes)) ≡ Some value
+  pub read : value_read (sized_of 4 0 longest_value (drop (offset - start) bytes)) ≡ Some value
   pub is : (len : ℕ) → value_from start values offset len ≡ (if length value == len then Some value else None)
 
-pub at_index : (i n start : ℕ) (bytes : List ℕ) (x : List (List ℕ) × List ℕ) → values_of n bytes ≡ Ok x → i < length (offsets_from start x.0)
+pub at_index : (i n start : ℕ) (bytes : List ℕ) (x : List (List ℕ) × List ℕ) → values_of longest_value n bytes ≡ Ok x → i < length (offsets_from start x.0)
     → At start (get_or (offsets_from start x.0) i 0) bytes x.0
 at_index i zero start bytes x e lt =
     let none : length (offsets_from start x.0) ≡ 0 = ap (λ (v : List (List ℕ)). length (offsets_from start v)) (no_value bytes x e) in
@@ -100,9 +100,9 @@ at_index zero (suc n) start bytes x e lt =
     (record {
       value = has.first.0;
       low = omega arith;
-      room = omega (arith, from, sized_length 4 0 value_limit bytes has.first has.value);
-      bytes_are = sized_bytes 4 0 value_limit bytes has.first has.value ∙ ap (λ (k : ℕ). take (length has.first.0) (drop 4 (drop k bytes))) (sym from);
-      read = ap (λ (k : ℕ). value_read (sized_of 4 0 value_limit (drop k bytes))) from ∙ ap value_read has.value;
+      room = omega (arith, from, sized_length 4 0 longest_value bytes has.first has.value);
+      bytes_are = sized_bytes 4 0 longest_value bytes has.first has.value ∙ ap (λ (k : ℕ). take (length has.first.0) (drop 4 (drop k bytes))) (sym from);
+      read = ap (λ (k : ℕ). value_read (sized_of 4 0 longest_value (drop k bytes))) from ∙ ap value_read has.value;
       is = λ len. here start len has.first.0 has.others;
     })
 at_index (suc i) (suc n) start bytes x e lt =
@@ -112,8 +112,8 @@ at_index (suc i) (suc n) start bytes x e lt =
     let within : i < length (offsets_from next has.others) = omega (arith, lt, ap (λ (v : List (List ℕ)). length (offsets_from start v)) has.both) in
     let more = at_index i n next has.first.1 (has.others, x.1) has.more within in
     let offset = get_or (offsets_from next has.others) i 0 in
-    let behind : has.first.1 ≡ drop size bytes = sized_behind 4 0 value_limit bytes has.first has.value in
-    let long = sized_length 4 0 value_limit bytes has.first has.value in
+    let behind : has.first.1 ≡ drop size bytes = sized_behind 4 0 longest_value bytes has.first has.value in
+    let long = sized_length 4 0 longest_value bytes has.first has.value in
     let sum : size + (offset - next) ≡ offset - start = omega (arith, more.low) in
     let from : drop (offset - next) has.first.1 ≡ drop (offset - start) bytes =
     ap (drop (offset - next)) behind ∙ drop-drop (offset - next) size bytes ∙ ap (λ (k : ℕ). drop k bytes) sum in
@@ -124,7 +124,7 @@ at_index (suc i) (suc n) start bytes x e lt =
       low = omega (arith, more.low);
       room = omega (arith, more.room, long, sum);
       bytes_are = more.bytes_are ∙ ap (λ (l : List ℕ). take (length more.value) (drop 4 l)) from;
-      read = ap (λ (l : List ℕ). value_read (sized_of 4 0 value_limit l)) (sym from) ∙ more.read;
+      read = ap (λ (l : List ℕ). value_read (sized_of 4 0 longest_value l)) (sym from) ∙ more.read;
       is = λ len. elsewhere start offset len has.first.0 has.others other ∙ more.is len;
     })
 
@@ -144,7 +144,7 @@ found_index start offset len (value ∷ values) some =
     index_by start offset value values (start == offset) refl
     (λ is. found_index (start + (4 + length value)) offset len values (ap is_some (sym (elsewhere start offset len value values is)) ∙ some))
 
-pub found_at : (n start offset len : ℕ) (bytes : List ℕ) (x : List (List ℕ) × List ℕ) → values_of n bytes ≡ Ok x → is_some (value_from start x.0 offset len) ≡ true
+pub found_at : (n start offset len : ℕ) (bytes : List ℕ) (x : List (List ℕ) × List ℕ) → values_of longest_value n bytes ≡ Ok x → is_some (value_from start x.0 offset len) ≡ true
     → At start offset bytes x.0
 found_at n start offset len bytes x e some =
     let i = found_index start offset len x.0 some in
@@ -194,14 +194,14 @@ none_at start offset len (value ∷ values) none =
 -- ---- listing them one by one
 
 pub one_more : (count i start : ℕ) (bytes : List ℕ) (first : List ℕ × List ℕ) (x : List (List ℕ) × List ℕ) (so_far all : List ℕ) → i < count
-    → sized_of 4 0 value_limit bytes ≡ Ok first → values_of (count - i) bytes ≡ Ok x → so_far ++ offsets_from start x.0 ≡ all
-    → (more : List (List ℕ)) × (values_of (count - (i + 1)) first.1 ≡ Ok (more, x.1)) × ((so_far ++ start ∷ []) ++ offsets_from (start + (4 + length first.0)) more ≡ all)
+    → sized_of 4 0 longest_value bytes ≡ Ok first → values_of longest_value (count - i) bytes ≡ Ok x → so_far ++ offsets_from start x.0 ≡ all
+    → (more : List (List ℕ)) × (values_of longest_value (count - (i + 1)) first.1 ≡ Ok (more, x.1)) × ((so_far ++ start ∷ []) ++ offsets_from (start + (4 + length first.0)) more ≡ all)
 one_more count i start bytes first x so_far all lt e read listed =
     let k : count - i ≡ suc (count - (i + 1)) = omega arith in
-    let has = first_value (count - (i + 1)) bytes x (ap (λ (n : ℕ). values_of n bytes) (sym k) ∙ read) in
+    let has = first_value (count - (i + 1)) bytes x (ap (λ (n : ℕ). values_of longest_value n bytes) (sym k) ∙ read) in
     let same : has.first ≡ first = ok_is has.first first (sym has.value ∙ e) in (
       has.others,
-      ap (λ (p : List ℕ × List ℕ). values_of (count - (i + 1)) p.1) (sym same) ∙ has.more,
+      ap (λ (p : List ℕ × List ℕ). values_of longest_value (count - (i + 1)) p.1) (sym same) ∙ has.more,
       append_assoc so_far (start ∷ []) (offsets_from (start + (4 + length first.0)) has.others)
           ∙ ap (λ (p : List ℕ × List ℕ). so_far ++ start ∷ offsets_from (start + (4 + length p.0)) has.others) (sym same)
           ∙ ap (λ (v : List (List ℕ)). so_far ++ offsets_from start v) (sym has.both)
@@ -209,10 +209,10 @@ one_more count i start bytes first x so_far all lt e read listed =
     )
 
 pub none_more : (count i start : ℕ) (bytes : List ℕ) (x : List (List ℕ) × List ℕ) (so_far all : List ℕ) → count ≤ i
-    → values_of (count - i) bytes ≡ Ok x → so_far ++ offsets_from start x.0 ≡ all → so_far ≡ all
+    → values_of longest_value (count - i) bytes ≡ Ok x → so_far ++ offsets_from start x.0 ≡ all → so_far ≡ all
 none_more count i start bytes x so_far all le read listed =
     let k : count - i ≡ 0 = omega arith in
-    let none = no_value bytes x (ap (λ (n : ℕ). values_of n bytes) (sym k) ∙ read) in
+    let none = no_value bytes x (ap (λ (n : ℕ). values_of longest_value n bytes) (sym k) ∙ read) in
     sym (append-nil so_far) ∙ ap (λ (v : List (List ℕ)). so_far ++ offsets_from start v) (sym none) ∙ listed
 
 -- ---- what was read
@@ -227,9 +227,9 @@ read_is r x e = subst IsRead (sym e) tt
 -- ---- in an opened block
 
 pub opened_read : (used count : ℕ) (bytes slice entries : List ℕ) → IsOpened used count bytes → slice ≡ bytes → entries ≡ body_of used slice
-    → values_of count entries ≡ Ok (values_in used count bytes, [])
+    → values_of longest_value count entries ≡ Ok (values_in used count bytes, [])
 opened_read used count bytes slice entries opened same body =
-    ap (values_of count) (body ∙ ap (body_of used) same) ∙ opened.read
+    ap (values_of longest_value count) (body ∙ ap (body_of used) same) ∙ opened.read
 
 pub is_entry : (offset : ℕ) (entries : List ℕ) (values : List (List ℕ)) → At header_size offset entries values → IsEntry offset entries
 is_entry offset entries values a = record { low = a.low; room = omega (arith, a.room); read = ap is_some a.read }
@@ -237,6 +237,6 @@ is_entry offset entries values a = record { low = a.low; room = omega (arith, a.
 pub same_value : (offset : ℕ) (entries value : List ℕ) (values : List (List ℕ)) (a : At header_size offset entries values) → value_entry offset entries ≡ Some value → a.value ≡ value
 same_value offset entries value values a is = let same : Some a.value ≡ Some value = sym a.read ∙ is in cc
 
-module _ (values : List (List ℕ)) (entries rest : List ℕ) (count offset : ℕ) (e : values_of count entries ≡ Ok (values, rest)) where
+module _ (values : List (List ℕ)) (entries rest : List ℕ) (count offset : ℕ) (e : values_of longest_value count entries ≡ Ok (values, rest)) where
   pub searched_at : (i : ℕ) → i < length (offsets_of values) → get_or (offsets_of values) i 0 ≡ offset → At header_size offset entries values
   searched_at i lt is = subst (λ (o : ℕ). At header_size o entries values) is (at_index i count header_size entries (values, rest) e lt)

@@ -1,6 +1,6 @@
 -- Where the entries of a block of values begin.
 use Rattle.std.specs.Prelude.{◌≡◌, ℕ, ◌+◌, ◌-◌, ◌≤◌, true, List, [], ◌∷◌, length, take, drop, Option, Some, None, is_some, Result, Ok, Err}
-use Rattle.hse_fields.specs.LogLimits.{value_limit}
+use Rattle.hse_fields.specs.LogLimits.{longest_value}
 use Rattle.hse_fields.specs.LogReading.{sized_of}
 use Rattle.hse_fields.specs.BlockText.{header_size}
 
@@ -19,7 +19,7 @@ value_read (Err left) = None
 
 -- the value that is read at an offset of a block whose entries are these
 abbrev pub value_entry : ℕ → List ℕ → Option (List ℕ)
-value_entry offset entries = value_read (sized_of 4 0 value_limit (drop (offset - header_size) entries))
+value_entry offset entries = value_read (sized_of 4 0 longest_value (drop (offset - header_size) entries))
 
 -- so many bytes behind the length at an offset of a block whose entries are these
 abbrev pub bytes_at : ℕ → ℕ → List ℕ → List ℕ

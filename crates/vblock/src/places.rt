@@ -1,5 +1,6 @@
 //! Values by where their entries begin, without a walk.
 ghost use Rattle.std.specs.Prelude.{◌≡◌, ◌+◌, ◌-◌, ◌<◌, ◌≤◌, ◌^◌, is_some, length, true, Some, IfOk};
+ghost use Rattle.hse_fields.specs.LogLimits.{longest_value};
 ghost use Rattle.hse_fields.specs.BlockGiven.{lent};
 ghost use Rattle.hse_fields.specs.BlockReading.{values_of};
 ghost use Rattle.hse_fields.specs.BlockText.{header_size, value_at};
@@ -9,7 +10,7 @@ ghost use Rattle.vblock.specs.Places.{bytes_at, offsets_from, offsets_of, value_
 use crate::ValueBlock;
 use crate::reading::read_value;
 use crate::value_block::of_length;
-use hse_fields::{HEADER_SIZE, block_body};
+use hse_fields::{HEADER_SIZE, LONGEST_VALUE, block_body};
 use hse_io::NoMemory;
 use std::alloc::Global;
 
@@ -52,7 +53,7 @@ fn entry_in(entries: &[u8], offset: u32) -> &[u8]
     ensures { value_entry offset entries.now ≡ Some result.now }
 {
     let (_, entry) = entries.split_at((offset as u64 - HEADER_SIZE) as usize);
-    match read_value(entry) {
+    match read_value(entry, LONGEST_VALUE) {
         Ok((value, _)) => value,
         Err(_) => unreachable!(),
     }
@@ -72,17 +73,17 @@ fn bytes_in(entries: &[u8], offset: u32, len: u32) -> &[u8]
 
 /// Where so many entries begin.
 fn offsets_in(alloc: Global, entries: &[u8], count: u32) -> Result<Vec<u32>, NoMemory>
-    requires read { IsRead (values_of count entries.now) }
+    requires read { IsRead (values_of longest_value count entries.now) }
     requires small { length entries.now < 4294967280 }
     ensures { IfOk result (λ offsets.
-        offsets.items ≡ offsets_of (read_of (values_of count entries.now))) }
+        offsets.items ≡ offsets_of (read_of (values_of longest_value count entries.now))) }
 {
     let mut offsets = Vec::new(alloc);
     let mut at = HEADER_SIZE as u32;
     let mut rest = entries;
     for _ in 0..count {
         offsets.push(at)?;
-        let Ok((value, behind)) = read_value(rest) else {
+        let Ok((value, behind)) = read_value(rest, LONGEST_VALUE) else {
             unreachable!();
         };
         at += 4 + value.len() as u32;

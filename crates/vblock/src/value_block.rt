@@ -1,12 +1,13 @@
 //! A block of values that was opened.
 ghost use Rattle.std.specs.Prelude.{◌≡◌, ◌==◌, if◌then◌else◌, length, None, Some};
+ghost use Rattle.hse_fields.specs.LogLimits.{longest_value};
 ghost use Rattle.hse_fields.specs.BlockReading.{values_of};
 ghost use Rattle.hse_fields.specs.BlockText.{header_size, value_at};
 ghost use Rattle.vblock.specs.Opened.{found_in, IsRead};
 ghost use Rattle.hse_fields.specs.BlockGiven.{lent};
 
 use crate::reading::read_value;
-use hse_fields::{HEADER_SIZE, block_body};
+use hse_fields::{HEADER_SIZE, LONGEST_VALUE, block_body};
 use std::marker::Model;
 
 /// A block of values, which stands for its values in order.
@@ -42,13 +43,13 @@ impl ValueBlock {
 
 /// The value of so many bytes whose entry begins at this offset, among the entries of a block.
 fn value_in(entries: &[u8], count: u32, offset: u64, len: u64) -> Option<&[u8]>
-    requires { IsRead (values_of count entries.now) }
-    ensures { lent result ≡ found_in header_size offset len (values_of count entries.now) }
+    requires { IsRead (values_of longest_value count entries.now) }
+    ensures { lent result ≡ found_in header_size offset len (values_of longest_value count entries.now) }
 {
     let mut rest = entries;
     let mut at = HEADER_SIZE;
     for _ in 0..count {
-        let Ok((value, behind)) = read_value(rest) else {
+        let Ok((value, behind)) = read_value(rest, LONGEST_VALUE) else {
             return None;
         };
         if at == offset {

@@ -1,27 +1,27 @@
 -- A refused field of a block lies in what was read.
 use Rattle.std.specs.Prelude.{◌≡◌, ℕ, zero, suc, ◌≤◌, nat_le, ◌&&◌, List, ◌∷◌, length, Option, Some, Result, Ok, Err}
 use Rattle.std.proofs.Common.{refl}
-use Rattle.hse_fields.specs.LogLimits.{longest_prefix, value_limit}
+use Rattle.hse_fields.specs.LogLimits.{longest_prefix}
 use Rattle.hse_fields.specs.LogReading.{◌>>=◌, ensure, sized_of}
 use Rattle.hse_fields.specs.Fields.{number_of, bytes_of}
 use Rattle.hse_fields.specs.BlockText.{PrefixEntry}
 use Rattle.hse_fields.specs.BlockReading.{behind_of, values_of, name_rises, name_of, prefix_entry, prefix_of, prefixes_of}
 use Rattle.hse_fields.specs.laws.Within.{Within, then, ensured, number_within, bytes_within, sized_within}
 
-abbrev pub others_of : ℕ → List ℕ × List ℕ → Result (List (List ℕ) × List ℕ) ℕ
-others_of n first = values_of n first.1 >>= λ others. Ok (first.0 ∷ others.0, others.1)
+abbrev pub others_of : ℕ → ℕ → List ℕ × List ℕ → Result (List (List ℕ) × List ℕ) ℕ
+others_of most n first = values_of most n first.1 >>= λ others. Ok (first.0 ∷ others.0, others.1)
 
 values_within_rest : (m : ℕ) (first : List ℕ) (r : Result (List (List ℕ) × List ℕ) ℕ) → Within m r
     → Within m (r >>= λ others. Ok (first ∷ others.0, others.1))
 values_within_rest m first (Ok x) w = w
 values_within_rest m first (Err left) w = w
 
-pub values_within : (n m : ℕ) (bytes : List ℕ) → length bytes ≤ m → Within m (values_of n bytes)
+pub values_within : (most n m : ℕ) (bytes : List ℕ) → length bytes ≤ m → Within m (values_of most n bytes)
 unfolding values_of
-values_within zero m bytes le = le
-values_within (suc n) m bytes le =
-    then m (sized_of 4 0 value_limit bytes) (others_of n) (sized_within 4 0 value_limit m bytes le)
-    (λ first h. values_within_rest m first.0 (values_of n first.1) (values_within n m first.1 h))
+values_within most zero m bytes le = le
+values_within most (suc n) m bytes le =
+    then m (sized_of 4 0 most bytes) (others_of most n) (sized_within 4 0 most m bytes le)
+    (λ first h. values_within_rest m first.0 (values_of most n first.1) (values_within most n m first.1 h))
 
 behind_more : (first : List ℕ) (r : Result (List (List ℕ) × List ℕ) ℕ)
     → behind_of (r >>= λ others. Ok (first ∷ others.0, others.1)) ≡ behind_of r
@@ -29,19 +29,19 @@ behind_more first (Ok x) = refl
 behind_more first (Err left) = refl
 
 -- behind values stands what stands behind the others
-pub values_behind : (n : ℕ) (bytes : List ℕ) (first : List ℕ × List ℕ) → sized_of 4 0 value_limit bytes ≡ Ok first
-    → behind_of (values_of (suc n) bytes) ≡ behind_of (values_of n first.1)
+pub values_behind : (most n : ℕ) (bytes : List ℕ) (first : List ℕ × List ℕ) → sized_of 4 0 most bytes ≡ Ok first
+    → behind_of (values_of most (suc n) bytes) ≡ behind_of (values_of most n first.1)
 unfolding values_of
-values_behind n bytes first e = rw e (behind_more first.0 (values_of n first.1))
+values_behind most n bytes first e = rw e (behind_more first.0 (values_of most n first.1))
 
-pub values_refused : (n : ℕ) (bytes : List ℕ) (left : ℕ) → sized_of 4 0 value_limit bytes ≡ Err left
-    → behind_of (values_of (suc n) bytes) ≡ Err left
+pub values_refused : (most n : ℕ) (bytes : List ℕ) (left : ℕ) → sized_of 4 0 most bytes ≡ Err left
+    → behind_of (values_of most (suc n) bytes) ≡ Err left
 unfolding values_of
-values_refused n bytes left e = rw e refl
+values_refused most n bytes left e = rw e refl
 
-pub values_none : (bytes : List ℕ) → behind_of (values_of 0 bytes) ≡ Ok bytes
+pub values_none : (most : ℕ) (bytes : List ℕ) → behind_of (values_of most 0 bytes) ≡ Ok bytes
 unfolding values_of
-values_none bytes = refl
+values_none most bytes = refl
 
 -- ---- prefix deletes
 

@@ -1,10 +1,11 @@
 -- The core of the snapshot machine: its state, and what is read off it.
-use Rattle.std.specs.Prelude.{ℕ, ◌+◌, ◌-◌, ◌^◌, ◌==◌, min, not, Bool, false, List, [], ◌∷◌, ◌++◌, sum_by, Option, Some, None}
+use Rattle.std.specs.Prelude.{ℕ, ◌+◌, ◌-◌, ◌^◌, ◌==◌, not, Bool, false, List, [], ◌∷◌, ◌++◌, sum_by, Option, Some, None}
 use Rattle.std.specs.List.{filter}
 use Rattle.hse_rows.specs.declared.store.Mode.{Mode}
 use Rattle.hse_rows.specs.declared.change.Change.{Change}
 use Rattle.hse_rows.specs.declared.write.Write.{Write}
 use Rattle.hse_rows.specs.writes.Change.{write_of}
+use Rattle.hse_rows.specs.writes.Lengths.{longest_value_in}
 use Rattle.hse_rows.specs.states.State.{Store, State}
 use Rattle.hse_rows.specs.states.History.{new_store, without}
 use Rattle.hse_rows.specs.transactions.Transaction.{Transaction, is_active}
@@ -118,15 +119,9 @@ oldest_commits (Some layer) = layer.commits
 
 -- ---- limits
 
-abbrev pub longest_key : ℕ
-longest_key = 1344
-
--- of any device, and of one with slots of this size
+-- of a value
 abbrev pub longest_value : Sizes → ℕ
-longest_value sizes = min 1048576 (sizes.slot_size - 64)
-
-abbrev pub longest_prefix : ℕ
-longest_prefix = 32
+longest_value sizes = longest_value_in sizes.slot_size
 
 abbrev pub most_transactions : ℕ
 most_transactions = 1024

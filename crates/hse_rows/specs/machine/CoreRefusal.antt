@@ -21,7 +21,8 @@ use Rattle.hse_rows.specs.rows.Job.{RunKind, JobWish, ingest, of_run, Job, JobSt
 use Rattle.hse_rows.specs.machine.Turn.{TurnWish, sync, freeze, create, drop, Turn, home, taken, ran, is_home, is_taken, is_run}
 use Rattle.hse_rows.specs.machine.Replies.{by_commit, by_abort, Refusal, no_name, ended_by, store_exists, no_store, store_mode, key_length, value_length, prefix_length, broken, too_many, spent, busy, turn_is, manifest_full, txn_size, log_full, full, log_busy, store_held, node_busy, canceled_held, canceled_since, depth, no_run, job_state}
 use Rattle.hse_rows.specs.machine.Calls.{outside, inside, Call, begin, write_by, get, commit, abort, list_stores, tree, info, take_place, give_place, pick, build, drop_job, next_job, take, take_install, write_turn, end_turn, reopen}
-use Rattle.hse_rows.specs.machine.Core.{Core, whole_room, left_room, free_slots, live, now, number_of, longest_key, longest_value, longest_prefix, most_transactions, most_cursors, most_jobs, greatest_number, write_to}
+use Rattle.hse_rows.specs.writes.Lengths.{longest_key, longest_prefix}
+use Rattle.hse_rows.specs.machine.Core.{Core, whole_room, left_room, free_slots, live, now, number_of, longest_value, most_transactions, most_cursors, most_jobs, greatest_number, write_to}
 use Rattle.hse_rows.specs.machine.ManifestEntry.{ManifestEntry, whole_need, has_no_room, creation_entry, drop_entry, install_entry}
 
 -- this refusal where the test says so, and else what comes later

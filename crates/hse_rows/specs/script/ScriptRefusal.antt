@@ -8,7 +8,8 @@ use Rattle.hse_rows.specs.rows.Job.{JobWish}
 use Rattle.hse_rows.specs.machine.Replies.{Refusal, bad_line, name_used, no_name, ended_by, by_commit, by_abort, no_store, key_length, forward_only}
 use Rattle.hse_rows.specs.machine.Calls.{outside, inside, Call}
 use Rattle.hse_rows.specs.machine.Calls as call
-use Rattle.hse_rows.specs.machine.Core.{Core, now, longest_key}
+use Rattle.hse_rows.specs.writes.Lengths.{longest_key}
+use Rattle.hse_rows.specs.machine.Core.{Core, now}
 use Rattle.hse_rows.specs.machine.CoreRefusal as core
 use Rattle.hse_rows.specs.machine.CoreDone as done_by
 use Rattle.hse_rows.specs.rows.Schedule.{next_wish}

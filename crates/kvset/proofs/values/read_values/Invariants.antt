@@ -6,4 +6,4 @@ use Rattle.kvset.proofs.values.read_values.Given as goal
 
 abbrev pub invariant-loop-block : goal.invariant-loop-block
 invariant-loop-block l =
-    with_front (map arc_value l.opened.items) (values_of l.block-iterator.rest.items) ≡ values_of l.fn.blocks.items
+    with_front (map arc_value l.opened.items) (values_of l.fn.slot l.block-iterator.rest.items) ≡ values_of l.fn.slot l.fn.blocks.items

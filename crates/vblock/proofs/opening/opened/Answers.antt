@@ -1,9 +1,9 @@
-use Rattle.std.proofs.Common.{subst, List, ℕ}
-use Rattle.vblock.specs.Opened.{IsOpened}
-use Rattle.vblock.proofs.OpeningLemmas.{are_told}
+use Rattle.std.proofs.Common.{◌≡◌, subst, List, ℕ, Ok}
+use Rattle.hse_fields.specs.BlockReading.{values_with}
+use Rattle.vblock.specs.Opened.{values_in}
 use Rattle.vblock.proofs.opening.opened.Goals as goal
 
 pub returns-in-Ok : goal.returns-in-Ok
 returns-in-Ok c =
-    let formed = subst (λ (b : List ℕ). IsOpened c.args.head.used c.args.head.count b) c.deref.ensures.value c.in-Ok.ensures.formed in
-    are_told c.args.head c.args.bytes.items formed
+    let head = c.args.head in
+    subst (λ (b : List ℕ). values_with c.args.most head b ≡ Ok (values_in head.used head.count b)) c.deref.ensures.value c.in-Ok.ensures.told

@@ -4,6 +4,6 @@ use Rattle.vblock.proofs.reading.behind_values.Given as goal
 
 abbrev pub invariant-loop : goal.invariant-loop
 invariant-loop l = record {
-  read : behind_of (values_of (l.count - l.counter) l.rest) ≡ behind_of (values_of l.count l.bytes);
+  read : behind_of (values_of l.most (l.count - l.counter) l.rest) ≡ behind_of (values_of l.most l.count l.bytes);
   shorter : length l.rest ≤ length l.bytes;
 }

@@ -1,6 +1,6 @@
 use Rattle.std.proofs.Common.{List, ℕ, ◌≡◌, ◌==◌, ◌∙◌, true, sym, arith}
 use Rattle.std.proofs.lemmas.Bool.{eq-eqb, ne_eqb}
-use Rattle.hse_fields.specs.LogLimits.{value_limit}
+use Rattle.hse_fields.specs.LogLimits.{longest_value}
 use Rattle.hse_fields.specs.laws.Fields.{sized_length}
 use Rattle.vblock.proofs.FindingLoop.{can_be_read, readable_behind, is_here, is_behind, is_nowhere}
 use Rattle.vblock.proofs.value_block.value_in.Goals as goal
@@ -19,13 +19,13 @@ returns-then-at-offset c =
 
 pub overflow_add-at-in-loop : goal.overflow_add-at-in-loop
 overflow_add-at-in-loop c =
-    let long = sized_length 4 0 value_limit c.loop.rest.now (c.in-Ok.value.now, c.in-Ok.behind.now) c.in-Ok.ensures in
+    let long = sized_length 4 0 longest_value c.loop.rest.now (c.in-Ok.value.now, c.in-Ok.behind.now) c.in-Ok.ensures in
     omega (arith, long, c.loop.invariant.place)
 
 pub loop-preserved : goal.loop-preserved
 loop-preserved c =
     let first : List ℕ × List ℕ = (c.in-Ok.value.now, c.in-Ok.behind.now) in
-    let long = sized_length 4 0 value_limit c.loop.rest.now first c.in-Ok.ensures in
+    let long = sized_length 4 0 longest_value c.loop.rest.now first c.in-Ok.ensures in
     record {
       readable = readable_behind c.args.count c.loop.counter c.loop.rest.now first c.loop-test.true c.in-Ok.ensures c.loop.invariant.readable;
       found = sym (is_behind c.args.count c.loop.counter c.loop.at c.args.offset c.args.len c.loop.rest.now first c.loop-test.true c.in-Ok.ensures (ne_eqb c.loop.at c.args.offset c.if-at-offset.false)) ∙ c.loop.invariant.found;
