@@ -1,5 +1,5 @@
 //! A batch, framed as it is written.
-ghost use Rattle.std.specs.Prelude.{◌≡◌, ◌^◌, ◌<◌, length, IfOk};
+ghost use Rattle.std.specs.Prelude.{◌≡◌, ◌+◌, ◌^◌, ◌<◌, ◌≤◌, drop, length, vec_len, vec_capacity, IfOk};
 ghost use Rattle.gate_log.specs.Framed.{framed};
 ghost use Rattle.gate_log.specs.Places.{need_of};
 
@@ -43,12 +43,35 @@ impl Batch {
         Ok(Batch { framed })
     }
 
+    /// The batch of the payload that stands behind the first four bytes. They become its length, and the
+    /// closed gate is put behind it, for which there is room: it takes no memory and copies nothing.
+    pub fn framed_in(mut bytes: Vec<u8>) -> Batch
+        requires head { 4 ≤ vec_len bytes }
+        requires room { vec_len bytes < vec_capacity bytes }
+        requires fits { vec_len bytes < 4 + 2 ^ 32 }
+        ensures { result ≡ drop 4 bytes.items }
+    {
+        let length = (bytes.len() - 4) as u32;
+        bytes[0..4].copy_from_slice(&length.to_be_bytes());
+        let Ok(()) = bytes.push(CLOSED[0]) else {
+            unreachable!();
+        };
+        Batch { framed: bytes }
+    }
+
     /// The bytes that are written behind the batch's gate.
     pub(crate) fn framed(&self) -> &[u8]
         ensures spelled { result.now ≡ framed self.now }
         ensures fits { length self.now < 2 ^ 32 }
     {
         &self.framed
+    }
+
+    /// The payload.
+    pub fn payload(&self) -> &[u8]
+        ensures { result.now ≡ self.now }
+    {
+        &self.framed[4..self.framed.len() - 1]
     }
 
     /// What the batch takes of a region, its gate included, in bytes.

@@ -1,5 +1,5 @@
 -- Reading batches one after the other, as a loop does.
-use Rattle.std.proofs.Common.{◌≡◌, ℕ, ◌+◌, ◌≤◌, ◌<◌, List, ◌∷◌, ◌++◌, length, get_or, drop, Result, Ok, Err, refl, sym, ap, ◌∙◌, append_assoc}
+use Rattle.std.proofs.Common.{◌≡◌, ℕ, ◌+◌, ◌≤◌, ◌<◌, List, [], ◌∷◌, ◌++◌, length, get_or, drop, Result, Ok, Err, refl, sym, ap, ◌∙◌, append_assoc}
 use Rattle.std.specs.List.{sum_by}
 use Rattle.std.proofs.lemmas.List.{append-nil, drop_more, drop_all}
 use Rattle.std.proofs.lemmas.List.Sums.{sum_by-cons}
@@ -73,3 +73,8 @@ tail_goes_on batches i batch lt is =
 -- behind the last one there is none
 pub tail_is_done : (batches : List Payload) (i : ℕ) → length batches ≤ i → sum_by need_of (payloads_of (drop i batches)) ≡ 0
 tail_is_done batches i le = ap (λ (bs : List Payload). sum_by need_of (payloads_of bs)) (drop_all i batches le)
+
+-- nothing was read yet
+pub begins : (read : Result (List Entry × Numbers) ℕ) → with_beginning [] read ≡ read
+begins (Ok x) = refl
+begins (Err place) = refl

@@ -1,5 +1,5 @@
 -- Reading entries one after the other, as a loop does, and what they take of the room.
-use Rattle.std.proofs.Common.{◌≡◌, ℕ, suc, ◌-◌, ◌+◌, ◌*◌, ◌≤◌, ◌<◌, List, [], ◌∷◌, ◌++◌, length, Result, Ok, Err, refl, sym, ap, ◌∙◌, append_assoc, arith, length-append}
+use Rattle.std.proofs.Common.{◌≡◌, ℕ, suc, ◌-◌, ◌+◌, ◌*◌, ◌≤◌, ◌<◌, List, [], ◌∷◌, ◌++◌, length, Result, Ok, Err, refl, sym, ap, subst, ◌∙◌, append_assoc, arith, length-append}
 use Rattle.std.specs.List.{flat_map}
 use Rattle.std.proofs.lemmas.List.{append-nil}
 use Rattle.std.proofs.lemmas.List.Sums.{sum_by-cons}
@@ -15,6 +15,7 @@ use Rattle.wal.specs.Charges.{charges}
 use Rattle.wal.specs.Given.{Fails}
 use Rattle.wal.specs.Logged.{charge}
 use Rattle.wal.specs.Numbering.{Numbers, numbering}
+use Rattle.wal.specs.Taking.{Takes}
 use Rattle.wal.specs.declared.live.StorePrefix.{StorePrefix}
 
 -- what was read before, and what is still read
@@ -75,3 +76,23 @@ payload_sized live most state last bytes es small e =
     let count = length-bytes_high_first 4 (length es) in
     let text = length-append (big_bytes 4 (length es)) (flat_map entry_text es) in
     omega (arith, spelled, some, count, text, text_charges es)
+
+-- nothing was read yet, and nothing taken
+pub begins : (read : Result ((List Entry × Numbers) × List ℕ) ℕ) → with_beginning [] read ≡ read
+begins (Ok x) = refl
+begins (Err left) = refl
+
+pub takes_none : (took : List Entry → Type 0) → Takes took took []
+takes_none took before here = subst took (sym (append-nil before)) here
+
+-- one more is taken
+pub takes_one : (old now new : List Entry → Type 0) (entries : List Entry) (e : Entry) → Takes old now entries
+    → ((before : List Entry) → now before → new (before ++ e ∷ [])) → Takes old new (entries ++ e ∷ [])
+takes_one old now new entries e so_far more before here =
+    subst new (append_assoc before entries (e ∷ [])) (more (before ++ entries) (so_far before here))
+
+-- and more behind those
+pub takes_more : (old now new : List Entry → Type 0) (entries others : List Entry) → Takes old now entries → Takes now new others
+    → Takes old new (entries ++ others)
+takes_more old now new entries others so_far more before here =
+    subst new (append_assoc before entries others) (more (before ++ entries) (so_far before here))

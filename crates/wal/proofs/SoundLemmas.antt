@@ -1,15 +1,23 @@
 -- What commits are whose entries follow one another.
-use Rattle.std.proofs.Common.{◌≡◌, ◌∙◌, ℕ, ◌+◌, ◌*◌, ◌≤◌, List, [], ◌∷◌, length, ap, subst, arith}
+use Rattle.std.proofs.Common.{◌≡◌, ◌∙◌, ℕ, ◌+◌, ◌*◌, ◌-◌, ◌≤◌, List, Ok, [], ◌∷◌, length, ap, subst, arith}
 use Rattle.std.specs.List.{All, AllByRecursion}
 use Rattle.std.proofs.lemmas.List.{length-map}
 use Rattle.std.proofs.lemmas.List.Elements.{All-from_recursion}
+use Rattle.gate_log.specs.Reading.{payloads_of, LiesInside}
+use Rattle.gate_log.specs.declared.front.Front.{Front}
+use Rattle.gate_log.specs.declared.front.End.TheVariants.{Closed}
+use Rattle.hse_fields.specs.LogText.{Entry}
 use Rattle.hse_fields.specs.LogReading.{Follow}
 use Rattle.wal.specs.Charges.{charges}
 use Rattle.wal.specs.Logged.{entry_of, entries_of}
 use Rattle.wal.specs.Numbered.{AreNumbered, AreSmall, IsRun}
 use Rattle.wal.specs.Numbering.{Numbers, last_number, numbering}
 use Rattle.wal.specs.laws.Numbering.{all_charges, all_small, next_small, counted, follow_run}
+use Rattle.wal.specs.Replaying.{segment_of, starting}
+use Rattle.wal.specs.Sound.{IsSound}
+use Rattle.wal.specs.laws.Batches.{batches_follow, closed_read}
 use Rattle.wal.specs.declared.commit.Commit.{Commit}
+use Rattle.wal.specs.declared.segment.Segment.{Segment}
 use Rattle.wal.specs.declared.live.StorePrefix.{StorePrefix}
 
 abbrev pub numbers_from : ℕ → List ℕ → ℕ → Numbers
@@ -45,4 +53,34 @@ counts live first room taken commits last le follow =
       small = next_small live start last (entries_of commits) le follow;
       numbered = λ none. (run_of live first room taken commits last follow none).numbered;
       consecutive = λ none. ap (λ (n : Numbers). n.next) (run_of live first room taken commits last follow none).last_is ∙ ap (λ (n : ℕ). first + n) many;
+    }
+
+-- A segment whose commits are what was read, and which ends as they do, is sound.
+pub sound_of : (size first most : ℕ) (taken : List ℕ) (live : List StorePrefix) (front : Front) (segment : Segment) (last : Numbers)
+    → LiesInside size (payloads_of front.batches.items) front.end → first ≤ last_number + 1
+    → segment_of live most (starting first taken size) (payloads_of front.batches.items) front.end ≡ Ok (entries_of segment.commits.items, last)
+    → segment.sequence ≡ front.sequence → front.end ≡ Closed segment.tail → segment.charges ≡ charges (entries_of segment.commits.items)
+    → segment.next ≡ last.next → segment.tail.place ≤ 9 + segment.charges → IsSound size first taken live front segment
+sound_of size first most taken live front segment last inside le read sequence closed charged next placed =
+    let start : Numbers = starting first taken size in
+    let x : List Entry × Numbers = (entries_of segment.commits.items, last) in
+    let follow = batches_follow live most start 9 (payloads_of front.batches.items) x (closed_read live most start (payloads_of front.batches.items) front.end x read) in
+    let k = counts live first (size - 64) taken segment.commits.items last le follow in
+    let here = subst (LiesInside size (payloads_of front.batches.items)) closed inside in
+    record {
+      sequence = sequence;
+      closed = closed;
+      behind = here.0;
+      inside = here.1;
+      charged = charged;
+      fits = omega (arith, k.charged, charged);
+      counted = omega (arith, k.counted, charged);
+      placed = placed;
+      numbers = k.numbers;
+      small = omega (arith, k.small, next);
+      numbered = k.numbered;
+      consecutive = λ none. next ∙ k.consecutive none;
+      last = last;
+      follows = follow;
+      next_is = next;
     }

@@ -1,4 +1,5 @@
 pub mod Logged
+pub mod Waits
 pub mod Kinds
 pub mod Charges
 pub mod Live
@@ -7,6 +8,7 @@ pub mod Past
 pub mod Room
 pub mod Expected
 pub mod Given
+pub mod Taking
 pub mod Replaying
 pub mod Numbered
 pub mod Writable
@@ -14,4 +16,5 @@ pub mod Stores
 pub mod Taken
 pub mod Sound
 pub mod Batches
+pub mod Writing
 pub mod laws

@@ -19,8 +19,12 @@ logged w = logged_change w.store.0 w.change
 abbrev pub logged_all : List Write → List log.Change
 logged_all writes = map logged writes
 
+-- by its number and its writes
+abbrev pub entry_with : ℕ → List Write → log.Entry
+entry_with number writes = record { number = number; changes = logged_all writes }
+
 abbrev pub entry_of : Commit → log.Entry
-entry_of c = record { number = c.number; changes = logged_all c.writes }
+entry_of c = entry_with c.number c.writes
 
 abbrev pub entries_of : List Commit → List log.Entry
 entries_of commits = map entry_of commits

@@ -7,7 +7,7 @@ use Rattle.gate_log.specs.declared.front.End.{End}
 use Rattle.gate_log.specs.declared.front.End.TheVariants.{Closed, CutOff}
 use Rattle.hse_fields.specs.LogText.{Entry}
 use Rattle.hse_fields.specs.LogReading.{◌>>=◌, payload_of}
-use Rattle.wal.specs.Charges.{charges}
+use Rattle.wal.specs.Charges.{charges, end_size}
 use Rattle.wal.specs.Logged.{entries_of}
 use Rattle.wal.specs.Numbering.{Numbers, numbering}
 use Rattle.wal.specs.declared.live.StorePrefix.{StorePrefix}
@@ -39,7 +39,7 @@ segment_of live most start payloads end = batches_of live most start first_gate 
 
 -- what is known before the first entry of a segment in a region of this size: 64 bytes are no room
 abbrev pub starting : ℕ → List ℕ → ℕ → Numbers
-starting next taken size = record { next = next; taken = taken; room = size - 64 }
+starting next taken size = record { next = next; taken = taken; room = size - end_size }
 
 -- the segment is what the region says
 pub record IsSegment (region : List ℕ) (live : List StorePrefix) (most : ℕ) (start : Numbers) (segment : Segment) : Type 0 where

@@ -7,3 +7,4 @@ pub mod MoreTaken
 pub mod Gapless
 pub mod Stores
 pub mod Starts
+pub mod Charges

@@ -5,14 +5,14 @@ ghost use Rattle.hse_fields.specs.LogReading.{change};
 ghost use Rattle.hse_fields.specs.LogText.{put, change_text, entry_text, head_text, payload_text};
 ghost use Rattle.hse_rows.specs.writes.Change.{change_of, FitsLimits};
 ghost use Rattle.wal.specs.Given.{kind_as};
-ghost use Rattle.wal.specs.Logged.{logged_change, entry_of, entries_of};
+ghost use Rattle.wal.specs.Logged.{logged_change, entry_of, entry_with, entries_of};
 
 use crate::Commit;
 use crate::kind::Kind;
 use gate_log::Batch;
 use hse_fields::{PUT, put_pieces, put_u32};
 use hse_io::NoMemory;
-use hse_rows::{ChangeRef, StoreId};
+use hse_rows::{ChangeRef, StoreId, WriteSet};
 use std::alloc::Global;
 
 /// Puts a put behind the others: all of it or, out of memory, nothing.
@@ -69,28 +69,38 @@ fn put_change(into: &mut Vec<u8>, store: StoreId, change: ChangeRef<'_>) -> Resu
     }
 }
 
-/// Puts the entry of a commit behind the others: all of it or, out of memory, nothing. So commits
-/// may be put one by one, as they come; their payload is their count, of four bytes, and these
-/// bytes.
+/// Puts the entry of a commit behind the others, by its number and its writes: all of it or, out of
+/// memory, nothing. So commits may be put one by one, as they come; their payload is their count, of
+/// four bytes, and these bytes.
 ///
 /// The condition: the entry has fewer than 2^32 bytes.
-pub fn put_entry(into: &mut Vec<u8>, commit: &Commit) -> Result<(), NoMemory>
-    requires { length (entry_text (entry_of commit.now)) < 2 ^ 32 }
+pub fn put_numbered(into: &mut Vec<u8>, number: u64, writes: &WriteSet) -> Result<(), NoMemory>
+    requires { length (entry_text (entry_with number writes.now)) < 2 ^ 32 }
     ensures written { OnOk result
-        (into.new.items ≡ into.old.items ++ entry_text (entry_of commit.now)) }
+        (into.new.items ≡ into.old.items ++ entry_text (entry_with number writes.now)) }
     ensures unchanged { OnErr result (into.new.items ≡ into.old.items) }
 {
     let start = into.len();
-    let count = commit.writes.len() as u32;
-    put_pieces(into, &[&commit.number.to_be_bytes(), &count.to_be_bytes()])?;
-    for place in 0..commit.writes.len() {
-        let (store, change) = commit.writes.at(place);
+    let count = writes.len() as u32;
+    put_pieces(into, &[&number.to_be_bytes(), &count.to_be_bytes()])?;
+    for place in 0..writes.len() {
+        let (store, change) = writes.at(place);
         if let Err(_) = put_change(into, store, change) {
             into.truncate(start);
             return Err(NoMemory);
         }
     }
     Ok(())
+}
+
+/// The same of a commit.
+pub fn put_entry(into: &mut Vec<u8>, commit: &Commit) -> Result<(), NoMemory>
+    requires { length (entry_text (entry_of commit.now)) < 2 ^ 32 }
+    ensures written { OnOk result
+        (into.new.items ≡ into.old.items ++ entry_text (entry_of commit.now)) }
+    ensures unchanged { OnErr result (into.new.items ≡ into.old.items) }
+{
+    put_numbered(into, commit.number, &commit.writes)
 }
 
 /// The batch of these commits, in their order.

@@ -15,21 +15,32 @@ mod order;
 mod payload;
 mod reader;
 mod replay;
+mod ring;
 mod segment;
 mod segment_laws;
+mod take;
 mod text_laws;
+mod waiting;
+mod writing;
 
 pub use commit::Commit;
-pub use encode::{encode_batch, put_entry};
+pub use encode::{encode_batch, put_entry, put_numbered};
 pub use expected::first_free;
 pub use live::StorePrefix;
 pub use number_laws::{
     entries_follow_the_numbers, later_taken_numbers_change_nothing, numbers_without_a_gap_follow,
     replayed_is_a_run, starts_alike_read_the_same,
 };
-pub use replay::segment_in;
-pub use segment::{Segment, SegmentFault};
+pub use replay::{segment_in, segment_into};
+pub use ring::Ring;
+pub use segment::{Segment, SegmentEnd, SegmentFault};
 pub use segment_laws::{
     dropped_stores_change_nothing, one_batch_more, one_replay, unnamed_stores_change_nothing,
 };
-pub use text_laws::{charge_is_length, commits_are_a_payload, encoded_is_replayed};
+pub use take::TakeCommits;
+pub use text_laws::{
+    batches_take_their_charges, charge_is_length, commits_are_a_payload, encoded_is_replayed,
+    limits_are_the_same,
+};
+pub use waiting::Waiting;
+pub use writing::WalFault;

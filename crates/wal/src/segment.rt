@@ -17,6 +17,17 @@ pub struct Segment {
     pub next: u64,
 }
 
+/// How a segment ends whose commits were taken as they were read: its sequence, what they take of its
+/// room in bytes, the place of the closed gate behind its batches, and the least number that may come
+/// next, unless it is taken.
+#[derive(Clone, Copy, Debug, PartialEq, Eq)]
+pub struct SegmentEnd {
+    pub sequence: u64,
+    pub charges: u64,
+    pub tail: Tail,
+    pub next: u64,
+}
+
 /// Why a segment was not read.
 #[derive(Clone, Copy, Debug, PartialEq, Eq, Error)]
 pub enum SegmentFault {

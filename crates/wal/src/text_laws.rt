@@ -2,10 +2,12 @@
 ghost use Rattle.std.specs.Prelude.{◌≡◌, ◌+◌, ◌-◌, ◌^◌, ◌<◌, ◌≤◌, ℕ, List, length, Ok};
 ghost use Rattle.std.specs.List.{All};
 ghost use Rattle.hse_fields.specs.LogForm.{ArePayload};
+ghost use Rattle.hse_fields.specs.LogLimits as log_limits;
 ghost use Rattle.hse_fields.specs.LogReading.{payload_of, Follow, PrefixesFit};
 ghost use Rattle.hse_fields.specs.LogText.{Entry, entry_text, payload_text};
 ghost use Rattle.hse_rows.specs.writes.Charge.{charge_of};
-ghost use Rattle.wal.specs.Charges.{charges};
+ghost use Rattle.hse_rows.specs.writes.Lengths.{longest_key, longest_prefix};
+ghost use Rattle.wal.specs.Charges.{charges, entries_charge, HasEntries};
 ghost use Rattle.wal.specs.Live.{prefix_fits};
 ghost use Rattle.wal.specs.Logged.{entry_of, entries_of};
 ghost use Rattle.wal.specs.Numbered.{untaken, AreNumbered};
@@ -14,10 +16,23 @@ ghost use Rattle.wal.specs.Writable.{IsWritableCommit};
 ghost use Rattle.wal.specs.declared.commit.Commit.{Commit as a_commit};
 ghost use Rattle.wal.specs.declared.live.StorePrefix.{StorePrefix as a_prefix};
 
+/// Keys and prefixes have the same limits in the fields of formats as in rows.
+pub fn limits_are_the_same()
+    ensures keys { log_limits.longest_key ≡ longest_key }
+    ensures prefixes { log_limits.longest_prefix ≡ longest_prefix }
+{}
+
 /// What a commit takes of a segment's room is the length of its entry, and 32.
 pub fn charge_is_length()
     ensures { (commit : a_commit)
         → charge_of commit.writes ≡ length (entry_text (entry_of commit)) + 32 }
+{}
+
+/// What a batch takes of a segment's room, by its bytes, is what its commits take.
+pub fn batches_take_their_charges()
+    ensures { (entries : List Entry) → 1 ≤ length entries → length entries < 2 ^ 32
+        → HasEntries (payload_text entries)
+        × (entries_charge (payload_text entries) ≡ charges entries) }
 {}
 
 /// Commits whose writes are in the order of a normal form, and whose numbers, stores, names, values

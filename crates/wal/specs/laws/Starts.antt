@@ -1,5 +1,5 @@
 -- A segment is read the same from two starts from which the same number comes first.
-use Rattle.std.proofs.Common.{◌≡◌, ℕ, zero, suc, ◌+◌, ◌-◌, ◌==◌, true, false, Bool, List, [], ◌∷◌, ◌++◌, length, ◌&&◌, Option, Some, None, Result, Ok, Err, refl, sym, ap, ◌∙◌}
+use Rattle.std.proofs.Common.{◌≡◌, ℕ, zero, suc, ◌+◌, ◌-◌, ◌==◌, true, false, Bool, List, ◌∷◌, ◌++◌, length, ◌&&◌, Option, Some, None, Result, Ok, Err, refl, sym, ap, ◌∙◌}
 use Rattle.std.specs.Prelude.{is_some, nat_lt, nat_le, if◌then◌else◌}
 use Rattle.gate_log.specs.Gates.{first_gate}
 use Rattle.gate_log.specs.Places.{need_of}
@@ -9,7 +9,7 @@ use Rattle.hse_fields.specs.Fields.{number_of}
 use Rattle.hse_fields.specs.LogReading.{◌>>=◌, ensure, given, changes_of, any_changes_of, comes_with, has_room, entry_of, entries_of, payload_of}
 use Rattle.wal.specs.Live.{prefix_fits}
 use Rattle.wal.specs.Logged.{charge}
-use Rattle.wal.specs.Numbering.{Numbers, free_from, taken_from, last_number, is_next, after, numbering}
+use Rattle.wal.specs.Numbering.{Numbers, taken_from, last_number, is_next, after, numbering}
 use Rattle.wal.specs.Replaying.{before, ended, batches_of, segment_of}
 use Rattle.wal.specs.Taken.{StartsAlike}
 use Rattle.wal.specs.declared.live.StorePrefix.{StorePrefix}

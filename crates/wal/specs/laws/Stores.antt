@@ -170,14 +170,20 @@ fits_dropped [] behind p store size none e =
 fits_dropped (q ∷ beginning) behind p store size none e =
     cond_more (q.store.0 == store) (nat_le size q.length) _ _ (λ h. fits_dropped beginning behind p store size none h) e
 
+-- A segment that is read is read the same where all the lengths are allowed that were.
+pub segment_allowed : (live other : List StorePrefix) → ((store size : ℕ) → prefix_fits live store size ≡ true → prefix_fits other store size ≡ true)
+    → (most : ℕ) (start last : Numbers) (payloads : List (List ℕ)) (end : End) (entries : List Entry)
+    → segment_of live most start payloads end ≡ Ok (entries, last) → segment_of other most start payloads end ≡ Ok (entries, last)
+segment_allowed live other more most start last payloads end entries e =
+    let allows = entries_more live other more entries in
+    let read = batches_too live other most start 9 payloads (entries, last) allows (closed_read live most start payloads end (entries, last) e) in
+    closed_too other most start payloads end (entries, last) (ends_closed live most start payloads end (entries, last) e) read
+
 -- A segment is read the same with a store taken out, whatever its changes name, if it is not listed again.
 pub segment_dropped : (beginning behind : List StorePrefix) (p : StorePrefix) (most : ℕ) (start last : Numbers) (payloads : List (List ℕ)) (end : End) (entries : List Entry)
     → All (λ (q : StorePrefix). q.store.0 ≢ p.store.0) behind → segment_of (beginning ++ p ∷ behind) most start payloads end ≡ Ok (entries, last)
     → segment_of (beginning ++ behind) most start payloads end ≡ Ok (entries, last)
 segment_dropped beginning behind p most start last payloads end entries none e =
-    let live = beginning ++ p ∷ behind in
-    let other = beginning ++ behind in
     let once = recursion_from_All (λ (q : StorePrefix). q.store.0 ≢ p.store.0) behind none in
-    let allows = entries_more live other (λ store size h. fits_dropped beginning behind p store size once h) entries in
-    let read = batches_too live other most start 9 payloads (entries, last) allows (closed_read live most start payloads end (entries, last) e) in
-    closed_too other most start payloads end (entries, last) (ends_closed live most start payloads end (entries, last) e) read
+    segment_allowed (beginning ++ p ∷ behind) (beginning ++ behind) (λ store size h. fits_dropped beginning behind p store size once h)
+    most start last payloads end entries e

@@ -1,6 +1,4 @@
-use Rattle.std.proofs.Common.{◌≡◌, ◌∙◌, ◌≤◌, ℕ, ap, sym, arith}
-use Rattle.hse_rows.specs.machine.TakenRuns.{numbers_of, runs_as}
-use Rattle.wal.specs.Numbering.{free_from, taken_from}
+use Rattle.std.proofs.Common.{◌∙◌, ◌≤◌, sym, arith}
 use Rattle.wal.proofs.RunLemmas.{before_runs, behind_run}
 use Rattle.wal.proofs.expected.first_free.Goals as goal
 

@@ -1,10 +1,10 @@
 use Rattle.std.proofs.Common.{◌≡◌, length, take}
 use Rattle.wal.specs.Logged.{logged_all}
 use Rattle.wal.proofs.TextLemmas.{begun}
-use Rattle.wal.proofs.encode.put_entry.Given as goal
+use Rattle.wal.proofs.encode.put_numbered.Given as goal
 
 abbrev pub invariant-loop-place : goal.invariant-loop-place
 invariant-loop-place l = record {
-  written : l.into.items ≡ begun l.fn.into.items l.commit.number (logged_all l.commit.writes) (logged_all (take l.place l.commit.writes));
+  written : l.into.items ≡ begun l.fn.into.items l.number (logged_all l.writes) (logged_all (take l.place l.writes));
   start : l.start ≡ length l.fn.into.items;
 }
