@@ -27,7 +27,7 @@ use Rattle.view.specs.Views.{ViewState, with_active}
 use Rattle.view.specs.Routed.{tree_rows}
 use Rattle.view.specs.Means.{layer_rows, set_rows, store_in, state_of, IsView}
 use Rattle.view.specs.Commits.{with_writes, active_of, committed, frozen}
-use Rattle.view.specs.Laws.{LayersTakeRows, CommitsHappen, FreezesKeepStates}
+use Rattle.view.specs.Laws.{LayersTakeRows, LayersTakeWrites, CommitsHappen, FreezesKeepStates}
 use Rattle.view.specs.Layers.{each-with, OfRow, each-row, row-each, each-of_store}
 use Rattle.view.proofs.ViewLemmas.{each-of_layers, each-tree}
 
@@ -93,6 +93,11 @@ module _ (take : LayersTakeRows) (number id : ℕ) (behind : List Row) (low : Al
         each-with (Last number l) layer (store_row write.store (row_numbered number write.change)) all.0 (later-last number write l less.0),
         more later less.1 all.1,
       )
+
+pub layers-take-writes : LayersTakeRows → LayersTakeWrites
+layers-take-writes take layer writes number id behind rise older low =
+    written take number id behind low writes rise layer
+    (each-any _ (λ (write : Write). each-weaker (λ (row : StoreRow) less. older-before number write.change row.row less) layer older) writes)
 
 -- ---- layers
 

@@ -6,3 +6,4 @@ pub mod IndexLemmas
 pub mod NewestLemmas
 pub mod FrontLemmas
 pub mod CommitLemmas
+pub mod StoreLemmas

@@ -5,5 +5,6 @@ pub mod Index
 pub mod Merges
 pub mod Gets
 pub mod Commits
+pub mod Stores
 pub mod Laws
 pub mod Layers

@@ -1,5 +1,6 @@
 //! Laws of views. Each function does nothing; its contract is the laws.
-ghost use Rattle.view.specs.Laws.{StoresAreNotNewer, NewerLayersGoOver, LayersTakeRows, CommitsHappen, FreezesKeepStates};
+ghost use Rattle.view.specs.Laws.{StoresAreNotNewer, NewerLayersGoOver, LayersTakeRows, LayersTakeWrites, CommitsHappen, FreezesKeepStates};
+ghost use Rattle.view.specs.Laws.{StoresComeAndGo};
 ghost use Rattle.view.specs.Merges.{SourcesAreRows, SourcesFall};
 
 use hse_rows::{Shared, normal_forms_are_in_order};
@@ -29,6 +30,13 @@ pub fn layers_take_rows()
     stores_take_their_rows();
 }
 
+/// So do the rows of the writes of a commit, one after another, in a layer of older rows.
+pub fn layers_take_writes()
+    ensures { LayersTakeWrites }
+{
+    layers_take_rows();
+}
+
 /// A commit is its rows in the active layer, all of the next number: they do to a view's state what
 /// the commit does.
 pub fn commits_happen<R: Shared>()
@@ -42,4 +50,10 @@ pub fn commits_happen<R: Shared>()
 /// active layer alone it is a view too, so the two may be put in place one after the other.
 pub fn freezes_keep_states<R: Shared>()
     ensures { FreezesKeepStates R R.rows }
+{}
+
+/// A store that was just created, behind the others, and the others without one that is dropped: they
+/// do to a view's state what the creation and the drop do. Both have the next number.
+pub fn stores_come_and_go<R: Shared>()
+    ensures { StoresComeAndGo R R.rows }
 {}

@@ -11,7 +11,8 @@ mod view_store;
 
 pub use get_fault::{GetFault, TxnState};
 pub use laws::{
-    commits_happen, freezes_keep_states, layers_take_rows, newer_layers_go_over, stores_are_merged,
+    commits_happen, freezes_keep_states, layers_take_rows, layers_take_writes,
+    newer_layers_go_over, stores_are_merged, stores_come_and_go,
 };
 pub use view::{View, is_key};
 pub use view_store::ViewStore;

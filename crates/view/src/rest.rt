@@ -84,6 +84,13 @@ impl<R: Shared> Rest<R> {
         find_id(&self.stores, id)
     }
 
+    /// The stores, in the order in which they were given.
+    pub(crate) fn stores(&self) -> &[ViewStore<R>]
+        ensures { result.now ≡ self.now.stores }
+    {
+        &self.stores
+    }
+
     /// The frozen layers, newest first.
     pub(crate) fn frozen(&self) -> &[IngestTree]
         ensures { result.now ≡ self.now.frozen }

@@ -19,7 +19,7 @@ use crate::layer::{first_word, layer_word, value_of};
 use crate::rest::Rest;
 use crate::view_store::ViewStore;
 use hse_io::NoMemory;
-use hse_rows::{Shared, StoreId, StoreName};
+use hse_rows::{LONGEST_KEY, Shared, StoreId, StoreName};
 use ingest_tree::IngestTree;
 use row_laws::{Word, first_sources_decide, merged_rows_are_entries};
 use std::alloc::Global;
@@ -46,9 +46,6 @@ impl<R: Shared> Model for View<R> {
 
     ghost invariant = { λ v. IsView R.rows (view_of v.number v.active (arc_value v.rest)) };
 }
-
-/// The most bytes that a key has.
-const LONGEST_KEY: usize = 1344;
 
 /// Whether these bytes may be a key: 1 to 1,344. It takes no memory.
 pub fn is_key(bytes: &[u8]) -> bool
@@ -117,6 +114,13 @@ impl<R: Shared> View<R> {
         ensures known { IfSome result (λ store. IsUnder R.rows self.now.layers store.now) }
     {
         self.rest.store_of(id)
+    }
+
+    /// Its stores, in the order in which they were given. It takes no memory.
+    pub fn stores(&self) -> &[ViewStore<R>]
+        ensures { result.now ≡ self.now.stores }
+    {
+        self.rest.stores()
     }
 
     /// How many layers there are. It takes no memory.
