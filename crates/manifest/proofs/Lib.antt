@@ -2,6 +2,7 @@ pub mod ManyLemmas
 pub mod RunLemmas
 pub mod StoreLemmas
 pub mod BatchLemmas
+pub mod ApartLemmas
 pub mod HeadLemmas
 pub mod LogLemmas
 pub mod RollLemmas

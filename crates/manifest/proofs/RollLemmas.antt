@@ -1,7 +1,7 @@
 -- The other half started with the next sequence and a base.
 use Rattle.std.proofs.Common.{◌≡◌, ◌∙◌, ◌⊎◌, inl, inr, ⊎_elim, ℕ, zero, suc, ◌+◌, ◌-◌, ◌%◌, ◌<◌, ◌≤◌, ◌^◌, Bool, true, false, List, [], ◌∷◌, take, Some, None, Result, Ok, Err, refl, sym, ap, subst, arith}
 use Rattle.std.specs.Prelude.{nat_lt, if◌then◌else◌}
-use Rattle.std.proofs.lemmas.Bool.{and_parts, eqb-true, eq-eqb, le-leb, lt-ltb, le-ltb}
+use Rattle.std.proofs.lemmas.Bool.{cases_lt, and_parts, eqb-true, eq-eqb, le-leb, lt-ltb, le-ltb}
 use Rattle.std.proofs.lemmas.List.Sums.{sum_by-cons}
 use Rattle.media_disk.specs.Content.{Torn}
 use Rattle.media_disk.specs.Images.{IsImage}
@@ -20,6 +20,11 @@ use Rattle.manifest.specs.Reading.{payload_of}
 use Rattle.manifest.specs.Writing.{HalvesApart}
 use Rattle.manifest.proofs.HeadLemmas.{head_is, closed_head, gated_head, has_any, half_apart}
 use Rattle.manifest.proofs.LogLemmas.{some_batch, half_head}
+
+-- where the other half can be started, a greater sequence is left
+pub is_small : {Lacks : Type 0} (sequence : ℕ) → ¬ (Lacks ⊎ (2 ^ 62 ≤ sequence)) → sequence < 2 ^ 62
+is_small sequence room =
+    elim (cases_lt sequence (2 ^ 62)) [ inl lt ↦ lt | inr le ↦ absurd (room (inr le)) ]
 
 -- a base alone
 pub first_entry : (most : ℕ) (payload : List ℕ) (m : Metadata) → payload_of most None payload ≡ Ok m

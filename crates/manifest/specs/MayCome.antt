@@ -1,6 +1,7 @@
 -- Which entries may come next.
 use Rattle.std.specs.Prelude.{◌≡◌, ℕ, ◌-◌, ◌^◌, ◌<◌, ◌≤◌, Bool, true, false, nat_lt, ◌||◌, ◌==◌, List, [], ◌∷◌, ◌++◌, length, Option, Some, None}
 use Rattle.hse_rows.specs.machine.TakenRuns.{NumberRun, longest_run}
+use Rattle.hse_rows.specs.writes.Lengths.{longest_prefix}
 use Rattle.hse_rows.specs.writes.Names.{IsName}
 use Rattle.manifest.specs.Metadata.{LiveStore, Metadata, greatest_number, last_of_run, is_used, is_live, may_be_number, with_store, without_store}
 use Rattle.manifest.specs.Reading.{may_be_next}
@@ -10,7 +11,7 @@ use Rattle.manifest.specs.Text.{Entry, base, create, drop}
 pub record IsDescribed (stores : List LiveStore) (store : LiveStore) : Type 0 where
   pub name : IsName store.name
   pub free : is_used store.name stores ≡ false
-  pub short : store.prefix_length ≤ 32
+  pub short : store.prefix_length ≤ longest_prefix
 
 pub record MayCreate (most : ℕ) (m : Metadata) (store : LiveStore) : Type 0 where
   pub number : may_be_number m store.id ≡ true

@@ -1,5 +1,5 @@
 -- What a manifest says: its metadata, and what a creation and a drop make of them.
-use Rattle.std.specs.Prelude.{ℕ, ◌+◌, ◌-◌, ◌^◌, nat_lt, nat_le, ◌==◌, ◌&&◌, not, Bool, if◌then◌else◌, List, [], ◌∷◌, ◌++◌}
+use Rattle.std.specs.Prelude.{◌≡◌, ℕ, ◌+◌, ◌-◌, ◌^◌, ◌<◌, ◌≤◌, false, nat_lt, nat_le, ◌==◌, ◌&&◌, not, Bool, if◌then◌else◌, List, [], ◌∷◌, ◌++◌}
 use Rattle.std.specs.List.{filter, list_any}
 use Rattle.hse_rows.specs.declared.store.Mode.{Mode}
 use Rattle.hse_rows.specs.machine.TakenRuns.{NumberRun, longest_run}
@@ -86,6 +86,21 @@ with_store m number store = record m { taken = with_taken m.taken number; stores
 -- the drop of this number, of the store of this id
 abbrev pub without_store : Metadata → ℕ → ℕ → Metadata
 without_store m number id = record m { taken = with_taken m.taken number; stores = without id m.stores }
+
+-- ids strictly rise from above this one on, and none is above the number
+abbrev pub AreRising : ℕ → ℕ → List LiveStore → Type 0
+AreRising low number [] = Unit {0}
+AreRising low number (store ∷ stores) = (low < store.id) × (store.id ≤ number) × AreRising store.id number stores
+
+-- no two stores have one name
+abbrev pub AreNamedApart : List LiveStore → Type 0
+AreNamedApart [] = Unit {0}
+AreNamedApart (store ∷ stores) = (is_used store.name stores ≡ false) × AreNamedApart stores
+
+-- Two names have two ids, and an id is a number that the metadata know of.
+pub record AreApart (m : Metadata) : Type 0 where
+  pub rising : AreRising 0 (last_known m) m.stores
+  pub named : AreNamedApart m.stores
 
 -- the number of the next creation or drop is above all that are known
 abbrev pub may_be_number : Metadata → ℕ → Bool

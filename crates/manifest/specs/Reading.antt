@@ -7,6 +7,7 @@ use Rattle.hse_fields.specs.LogReading.{◌>>=◌, ensure, given, size_of}
 use Rattle.hse_rows.specs.declared.store.Mode.{Mode}
 use Rattle.hse_rows.specs.declared.store.Mode.TheVariants.{Plain, Tx}
 use Rattle.hse_rows.specs.machine.TakenRuns.{NumberRun, longest_run}
+use Rattle.hse_rows.specs.writes.Lengths.{longest_prefix}
 use Rattle.hse_rows.specs.writes.Names.{is_name_byte}
 use Rattle.manifest.specs.Metadata.{LiveStore, Metadata, greatest_number, last_of_run, last_id, is_taken, is_used, is_live, may_be_number, with_store, without_store}
 use Rattle.manifest.specs.Text.{base_kind, create_kind, drop_kind}
@@ -81,7 +82,7 @@ described_of stores id bytes = do
   name ← name_of stores bytes
   mode ← mode_of name.1
   prefix ← number_of 1 mode.1
-  short ← ensure (nat_le prefix.0 32) (length mode.1)
+  short ← ensure (nat_le prefix.0 longest_prefix) (length mode.1)
   Ok (record { id = id; name = name.0; mode = mode.0; prefix_length = prefix.0 }, prefix.1)
 
 -- A store of this id may come next in a base: there is room for it, ids rise, and an id is a number up to the horizon or

@@ -7,8 +7,8 @@ ghost use Rattle.manifest.specs.Reading.{name_of, mode_with, mode_of, described_
 ghost use Rattle.manifest.specs.Views.{Gives, store_as, stores_as};
 
 use crate::BaseStore;
-use hse_fields::{LONGEST_PREFIX, Refusal, split_bytes, split_u8};
-use hse_rows::{Mode, NameFault, StoreId, StoreName};
+use hse_fields::{Refusal, split_bytes, split_u8};
+use hse_rows::{LONGEST_PREFIX, Mode, NameFault, StoreId, StoreName};
 use std::alloc::Global;
 
 /// The most bytes that a name has.
@@ -90,7 +90,7 @@ pub(crate) fn described<'b>(
     let (name, rest) = name(alloc, stores, bytes)?;
     let (mode, rest) = mode(rest)?;
     let (prefix, behind) = split_u8(rest)?;
-    if prefix as u64 > LONGEST_PREFIX {
+    if prefix as usize > LONGEST_PREFIX {
         return Err(Refusal::Left(rest.len() as u64));
     }
     let store = BaseStore {

@@ -158,3 +158,15 @@ pub fn encode_entry(alloc: Global, entry: &Entry) -> Result<Batch, NoMemory>
     put_entry(&mut payload, entry)?;
     Batch::of(alloc, &payload)
 }
+
+/// The batch of a base.
+///
+/// The condition: the base has fewer than 2^32 bytes.
+pub fn encode_base(alloc: Global, base: &Base) -> Result<Batch, NoMemory>
+    requires { length (base_text (metadata_as base.now)) < 2 ^ 32 }
+    ensures { IfOk result (λ batch. batch ≡ base_text (metadata_as base.now)) }
+{
+    let mut payload = Vec::new(alloc);
+    put_base(&mut payload, base)?;
+    Batch::of(alloc, &payload)
+}

@@ -20,7 +20,7 @@ mod stores;
 mod writing;
 
 pub use base::{Base, BaseStore};
-pub use encode::encode_entry;
+pub use encode::{encode_base, encode_entry};
 pub use entry::Entry;
 pub use fault::ManifestFault;
 pub use laws::{

@@ -8,6 +8,8 @@ ghost use Rattle.device_layout.specs.Layouts.{IsGood, half_of, size_of_device};
 ghost use Rattle.manifest.specs.Half.{half_in_force, head_in};
 ghost use Rattle.manifest.specs.HeadViews.{head_as};
 ghost use Rattle.manifest.specs.Loading.{IsHalf, IsLoad, IsQuiet, LoadReports};
+ghost use Rattle.manifest.specs.Metadata.{AreApart};
+ghost use Rattle.manifest.specs.Views.{metadata_as};
 
 use crate::batches::base_of_batches;
 use crate::heads::{HEAD_SIZE, Head, half_of_heads, head_of_bytes};
@@ -66,6 +68,8 @@ fn loaded_in(
     requires inside { EndsInside layout.manifest front }
     ensures loaded { (image : List ℕ) → half_in_force layout image ≡ Ok half
         → IsFront (region_of (half_of layout half) image) front → IsLoad layout image result }
+    ensures apart { IfOk result (λ loaded. AreApart (metadata_as loaded.base)) }
+    ensures layout { IfOk result (λ loaded. loaded.manifest.layout ≡ layout) }
     ensures quiet { IsQuiet result }
 {
     let Some(front) = front else {
@@ -101,6 +105,9 @@ pub fn load<D: Disk>(alloc: Global, disk: &mut D, layout: &Layout) -> Result<Loa
     requires inside { size_of_device layout.now ≤ D.extent disk.old }
 
     ensures loaded { D.tells → IsLoad layout.now (D.seen disk.old) result }
+    // Whatever the device tells.
+    ensures apart { IfOk result (λ loaded. AreApart (metadata_as loaded.base)) }
+    ensures layout { IfOk result (λ loaded. loaded.manifest.layout ≡ layout.now) }
     ensures calls { CallsMade D.Device disk.old disk.new }
     ensures reports { LoadReports D.Device disk.old disk.new result }
     ensures reads { OnlyReads D.Device disk.old disk.new }

@@ -42,6 +42,15 @@ fn is_short_base(base: &Base) -> bool
     have_room(size, &base.stores)
 }
 
+impl Base {
+    /// Whether the base has fewer than 2^32 bytes, as a batch's payload has.
+    pub fn is_short(&self) -> bool
+        ensures { IsTrue result ↔ length (base_text (metadata_as self.now)) < 2 ^ 32 }
+    {
+        is_short_base(self)
+    }
+}
+
 impl Entry {
     /// Whether the entry has fewer than 2^32 bytes, as a batch's payload has.
     pub fn is_short(&self) -> bool

@@ -1,5 +1,5 @@
 //! Adds entries to the manifest.
-ghost use Rattle.std.specs.Prelude.{◌≡◌, ◌≤◌, ◌-◌, nat_le, [], None, Some, OnOk};
+ghost use Rattle.std.specs.Prelude.{◌≡◌, ◌≤◌, ◌-◌, ◌↔◌, IsTrue, nat_le, [], None, Some, OnOk};
 ghost use Rattle.media_disk.specs.Calls.{CallsMade};
 ghost use Rattle.media_disk.specs.Content.{Torn};
 ghost use Rattle.gate_log.specs.Places.{need_of};
@@ -7,7 +7,7 @@ ghost use Rattle.device_layout.specs.Layouts.{half_of, size_of_device};
 ghost use Rattle.manifest.specs.Loading.{HoldsAt};
 ghost use Rattle.manifest.specs.Metadata.{Metadata};
 ghost use Rattle.manifest.specs.Reading.{payload_of};
-ghost use Rattle.manifest.specs.Writing.{room_in, IsLogAnswer, IsRollAnswer, WriteReports, HalvesApart, LeavesHalf, OldOrLogged, OldOrRolled};
+ghost use Rattle.manifest.specs.Writing.{room_in, room_of_half, IsLogAnswer, IsRollAnswer, IsRollFull, WriteReports, HalvesApart, LeavesHalf, OldOrLogged, OldOrRolled};
 
 use crate::heads::{GREATEST_SEQUENCE, HEAD_SIZE};
 use crate::{Manifest, ManifestFault};
@@ -27,6 +27,21 @@ impl Manifest {
         ensures { result ≡ nat_le (need_of batch.now) (room_in self.now) }
     {
         batch.need() <= self.layout.manifest - (self.tail.place + 1)
+    }
+
+    /// What a new half has room for, in bytes.
+    pub fn room_of_half(&self) -> u64
+        ensures { result ≡ room_of_half self.now.layout }
+    {
+        self.layout.manifest - HEAD_SIZE as u64
+    }
+
+    /// Whether the other half can be started with this base: a new half has room for it, and a
+    /// greater sequence is left.
+    pub fn can_roll(&self, base: &Batch) -> bool
+        ensures { IsTrue result ↔ ¬ IsRollFull self.now base.now }
+    {
+        base.need() <= self.room_of_half() && self.sequence < GREATEST_SEQUENCE
     }
 
     /// Adds a creation or a drop to the half in force. It takes no memory. Whenever the device
@@ -68,8 +83,8 @@ impl Manifest {
     /// Starts the other half with the next sequence and this base. It takes no memory. Whenever the
     /// device stops, the manifest says what it said before, at this place, or what the base says,
     /// alone in the other half with the next sequence, and nothing else of the device changes;
-    /// after `Ok` nothing is pending. `ManifestFull` comes before any device call, exactly where a new half has no room for the base or no greater sequence is left.
-    /// After `Device` the manifest says either, and this place stays.
+    /// after `Ok` nothing is pending. `ManifestFull` comes before any device call, exactly where a
+    /// new half has no room for the base or no greater sequence is left. After `Device` the manifest says either, and this place stays.
     ///
     /// The conditions: the device is as large as its layout says; this is the place of its
     /// manifest, the batch is a base, and nothing is pending in the halves.
@@ -94,13 +109,8 @@ impl Manifest {
             → LeavesHalf D.Device self.old.layout (1 - self.old.half) disk.old disk.new
             (OldOrRolled self.old base.now before after) }
     {
-        let need = base.need();
-        let room = self.layout.manifest - HEAD_SIZE as u64;
-        if room < need {
-            return Err(ManifestFault::ManifestFull(need, room));
-        }
-        if self.sequence >= GREATEST_SEQUENCE {
-            return Err(ManifestFault::ManifestFull(need, room));
+        if !self.can_roll(base) {
+            return Err(ManifestFault::ManifestFull(base.need(), self.room_of_half()));
         }
         let half = 1 - self.half;
         let region = self.layout.half(half);

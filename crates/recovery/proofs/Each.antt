@@ -1,5 +1,5 @@
 -- Each image of bytes is loaded, or refused, or has another version.
-use Rattle.std.proofs.Common.{◌≡◌, ◌∙◌, inl, inr, ⊎_elim, ℕ, ◌+◌, ◌*◌, ◌≤◌, List, [], ◌∷◌, Result, Ok, Err, refl, sym, subst, length, drop, arith, length-drop}
+use Rattle.std.proofs.Common.{◌≡◌, ◌∙◌, ◌⊎◌, inl, inr, ⊎_elim, ℕ, ◌+◌, ◌*◌, ◌≤◌, List, [], ◌∷◌, Result, Ok, Err, refl, sym, subst, length, drop, arith, length-drop}
 use Rattle.std.proofs.lemmas.Bool.{cases_eq, cases_lt}
 use Rattle.std.proofs.lemmas.List.{length-take}
 use Rattle.hse_fields.specs.LogReading.{◌>>=◌}
@@ -20,9 +20,10 @@ use Rattle.manifest.specs.Metadata.{Metadata}
 use Rattle.manifest.specs.laws.Fronts.{Opened, each_region}
 use Rattle.wal.specs.Numbering.{Numbers, taken_from}
 use Rattle.wal.specs.Replaying.{batches_of, ended, segment_of}
-use Rattle.recovery.specs.Image.{HasLayout, HasLog, Log, before_log, block_in, log_region, longest_value, prefixes_of}
+use Rattle.recovery.specs.Image.{HasLayout, HasLog, HasNoGap, Log, NamesKnown, before_log, block_in, log_region, longest_value, number_of, prefixes_of}
 use Rattle.recovery.specs.Refused.{HasOpening, LacksSegment}
 use Rattle.recovery.specs.declared.region.Region.TheVariants.{Super, Manifest, Log as LogSegment}
+use Rattle.recovery.proofs.NamedLemmas.{known_or_not}
 
 abbrev Read : Type 0
 Read = Result (List Entry × Numbers) ℕ
@@ -46,13 +47,30 @@ module _ (image : List ℕ) (layout : Layout) (has : HasLayout image layout) (m 
   said payloads end = segment_of (prefixes_of m.stores) (longest_value layout) (before_log layout m) payloads end
 
   lacking : LacksSegment layout image → HasOpening image
-  lacking lacks = inr (inl (LogSegment 1, 0, (refl, record { layout = layout; layout_is = has; metadata = m; manifest = is; refused = inl (refl, lacks) })))
+  lacking lacks = inr (inl (LogSegment 1, 0, (refl, record { layout = layout; layout_is = has; metadata = m; manifest = is; refused = inl (inl (refl, lacks)) })))
+
+  by_names : (log : Log) → HasLog layout image m log → HasNoGap m log → NamesKnown m log ⊎ ¬ NamesKnown m log → HasOpening image
+  by_names log has_log full (inl known) = inl (
+    record { layout = layout; half = is.half; sequence = is.sequence; place = is.place; metadata = m; log = log },
+    record { layout = has; manifest = is.holds; log = has_log; full = full; named = known },
+  )
+  by_names log has_log full (inr unknown) = inr (inl (
+    LogSegment 1,
+    0,
+    (
+      refl,
+      record {
+        layout = layout;
+        layout_is = has;
+        metadata = m;
+        manifest = is;
+        refused = inr (refl, record { log = log; has_log = has_log; full = full; unknown = unknown });
+      },
+    ),
+  ))
 
   by_gap : (log : Log) → HasLog layout image m log → (taken : List ℕ) → taken_from log.next (numbers_of m.taken) ≡ taken → HasOpening image
-  by_gap log has_log [] none = inl (
-    record { layout = layout; half = is.half; sequence = is.sequence; place = is.place; metadata = m; log = log },
-    record { layout = has; manifest = is.holds; log = has_log; full = none },
-  )
+  by_gap log has_log [] none = by_names log has_log none (known_or_not (number_of m log) log.entries)
   by_gap log has_log (number ∷ taken) some = inr (inl (
     Manifest is.half,
     0,
@@ -100,7 +118,7 @@ module _ (image : List ℕ) (layout : Layout) (has : HasLayout image layout) (m 
         layout_is = has;
         metadata = m;
         manifest = is;
-        refused = inr (record { payloads = payloads; end = end; ends = ends; refused = is_read });
+        refused = inl (inr (record { payloads = payloads; end = end; ends = ends; refused = is_read }));
       },
     ),
   ))

@@ -1,9 +1,19 @@
--- Whether taken numbers are left behind a log.
-use Rattle.std.proofs.Common.{◌≡◌, ℕ, zero, suc, ◌+◌, ◌≤◌, true, false, List, [], ◌∷◌, ◌++◌, length, sym, refl, arith}
+-- Which number comes first behind a log, and whether taken numbers are left behind it.
+use Rattle.std.proofs.Common.{◌≡◌, ◌∙◌, ℕ, zero, suc, ◌+◌, ◌≤◌, true, false, List, [], ◌∷◌, ◌++◌, length, sym, refl, arith}
 use Rattle.std.specs.Prelude.{◌==◌}
 use Rattle.std.proofs.lemmas.Bool.{eqb-true}
 use Rattle.hse_rows.specs.declared.taken_run.TakenRun.{TakenRun}
 use Rattle.hse_rows.specs.machine.TakenRuns.{counted, numbers_of, runs_as}
+use Rattle.wal.specs.Numbering.{free_from, taken_from}
+
+-- by equal numbers and runs the same is found
+pub free_by : (found next next' : ℕ) (runs runs' : List TakenRun) → found ≡ free_from next (numbers_of (runs_as runs)) → runs ≡ runs' → next ≡ next'
+    → found ≡ free_from next' (numbers_of (runs_as runs'))
+free_by found next next' runs runs' is same alike = is ∙ (λ i. free_from (alike i) (numbers_of (runs_as (same i))))
+
+pub taken_by : (found : List ℕ) (next next' : ℕ) (runs runs' : List TakenRun) → found ≡ taken_from next (numbers_of (runs_as runs)) → runs ≡ runs'
+    → next ≡ next' → found ≡ taken_from next' (numbers_of (runs_as runs'))
+taken_by found next next' runs runs' is same alike = is ∙ (λ i. taken_from (alike i) (numbers_of (runs_as (same i))))
 
 -- no run has no number
 pub no_numbers : (runs : List TakenRun) → true ≡ (length runs == 0) → numbers_of (runs_as runs) ≡ []

@@ -7,3 +7,6 @@ pub mod OneRefusal
 mod FormatLemmas
 mod NewLemmas
 mod StopLemmas
+pub mod LayerLemmas
+pub mod ViewLemmas
+pub mod NamedLemmas

@@ -21,6 +21,7 @@ use Rattle.wal.specs.Replaying.{batches_of}
 use Rattle.recovery.specs.Formatting.{IsBlank, IsFilled, first_loaded, first_metadata, layout_of}
 use Rattle.recovery.specs.Image.{HasLog, IsLoaded, before_log, block_in, log_region}
 use Rattle.recovery.proofs.FormatLemmas.{behind_block}
+use Rattle.recovery.proofs.NamedLemmas.{none_named}
 
 closed_zeros : (n : ℕ) → IsClosed (replicate n 0)
 closed_zeros zero = tt
@@ -128,4 +129,5 @@ module _ (layout : Layout) (good : IsGood layout) (block seen : List ℕ) (is : 
             (subst (λ (r : List ℕ). Gated r 1 (base_text first_metadata ∷ [])) (sym second) filled.begun.second) (first_base_read layout.stores));
         log = has_log (put_at seen 0 (open_gate ∷ [])) (subst (λ (r : List ℕ). Gated r 1 []) (sym log) filled.log);
         full = refl;
+        named = none_named.above;
       }

@@ -1,5 +1,5 @@
 -- No image is both loaded and refused.
-use Rattle.std.proofs.Common.{◌≡◌, ◌∙◌, inl, inr, ⊎_elim, ℕ, List, Result, Ok, Err, sym, subst, length, arith}
+use Rattle.std.proofs.Common.{◌≡◌, ◌∙◌, ◌⊎◌, inl, inr, ⊎_elim, ℕ, List, Result, Ok, Err, sym, subst, length, arith}
 use Rattle.hse_fields.specs.LogText.{Entry}
 use Rattle.hse_rows.specs.machine.TakenRuns.{numbers_of}
 use Rattle.gate_log.specs.Places.{region_of}
@@ -15,8 +15,8 @@ use Rattle.manifest.specs.Metadata.{Metadata}
 use Rattle.manifest.specs.laws.OneManifest.{one_held, not_refused}
 use Rattle.wal.specs.Numbering.{Numbers, taken_from}
 use Rattle.wal.specs.Replaying.{segment_of}
-use Rattle.recovery.specs.Image.{HasLayout, HasLog, IsLoaded, Loaded, before_log, block_in, log_region, longest_value, prefixes_of}
-use Rattle.recovery.specs.Refused.{HasGap, IsLogRefused, IsManifestRefused, IsNotFormed, IsOtherVersion, IsSuperRefused, IsTextRefused, LacksSegment}
+use Rattle.recovery.specs.Image.{HasLayout, HasLog, IsLoaded, Loaded, Log, NamesKnown, before_log, block_in, log_region, longest_value, prefixes_of}
+use Rattle.recovery.specs.Refused.{HasGap, IsLogRefused, IsManifestRefused, IsNotFormed, IsOtherVersion, IsSuperRefused, IsTextRefused, IsUnread, LacksSegment, NamesUnknown}
 use Rattle.recovery.specs.declared.region.Region.{Region}
 use Rattle.recovery.specs.declared.region.Region.TheVariants.{Super, Manifest, Log as LogSegment, Slot}
 use Rattle.recovery.proofs.OneLoading.{one_layout, one_log}
@@ -84,17 +84,25 @@ module _ (image : List ℕ) (loaded : Loaded) (is : IsLoaded image loaded) where
       ∙ (λ i. segment_of (prefixes_of loaded.metadata.stores) (longest_value loaded.layout) (before_log loaded.layout loaded.metadata) (same.1 i) (same.2 i))
       ∙ bad.refused)
 
+  -- all that it names is known
+  not_unknown : NamesUnknown loaded.layout image loaded.metadata → ⊥
+  not_unknown bad =
+      let logs = one_log loaded.layout image loaded.metadata loaded.log bad.log is.log bad.has_log in
+      bad.unknown (subst (λ (l : Log). NamesKnown loaded.metadata l) logs is.named)
+
+  not_behind : (place : ℕ) → IsUnread loaded.layout image loaded.metadata place ⊎ ((place ≡ 0) × NamesUnknown loaded.layout image loaded.metadata) → ⊥
+  not_behind place (inl (inl lacks)) = not_lacking lacks.1
+  not_behind place (inl (inr text)) = not_text place text
+  not_behind place (inr names) = not_unknown names.1
+
   not_log : (place : ℕ) → IsLogRefused image place → ⊥
   not_log place bad =
       let same = sym (layout_is bad.layout bad.layout_is) in
       let held = subst (λ (l : Layout). Holds l bad.manifest.half bad.manifest.sequence bad.manifest.place image bad.metadata) same bad.manifest.holds in
       let said = sym (metadata_is bad.manifest.half bad.manifest.sequence bad.manifest.place bad.metadata held) in
-      ⊎_elim
-      (λ (lacks : (place ≡ 0) × LacksSegment bad.layout image). not_lacking (subst (λ (l : Layout). LacksSegment l image) same lacks.1))
-      (λ (text : IsTextRefused bad.layout image bad.metadata place).
-      not_text place (subst (λ (m : Metadata). IsTextRefused loaded.layout image m place) said
-      (subst (λ (l : Layout). IsTextRefused l image bad.metadata place) same text)))
-      bad.refused
+      not_behind place
+      (subst (λ (m : Metadata). IsUnread loaded.layout image m place ⊎ ((place ≡ 0) × NamesUnknown loaded.layout image m)) said
+      (subst (λ (l : Layout). IsUnread l image bad.metadata place ⊎ ((place ≡ 0) × NamesUnknown l image bad.metadata)) same bad.refused))
 
   pub not_formed : (region : Region) (place : ℕ) → IsNotFormed image region place → ⊥
   not_formed Super place bad = not_super place bad

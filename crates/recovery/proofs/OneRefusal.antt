@@ -1,6 +1,7 @@
 -- No image is refused at two places.
-use Rattle.std.proofs.Common.{◌≡◌, ◌∙◌, ◌⊎◌, inl, inr, ℕ, List, Result, Ok, Err, refl, sym, ap, subst, length, arith}
+use Rattle.std.proofs.Common.{◌≡◌, ◌∙◌, ◌⊎◌, inl, inr, ⊎_elim, ℕ, List, Result, Ok, Err, refl, sym, ap, subst, length, arith}
 use Rattle.hse_fields.specs.LogText.{Entry}
+use Rattle.hse_rows.specs.machine.TakenRuns.{numbers_of}
 use Rattle.gate_log.specs.Places.{region_of}
 use Rattle.gate_log.specs.Reading.{Ends}
 use Rattle.gate_log.specs.declared.front.End.{End}
@@ -14,13 +15,13 @@ use Rattle.device_layout.specs.declared.params.Params.{Params}
 use Rattle.manifest.specs.Half.{IsMetadata, IsRefused}
 use Rattle.manifest.specs.Metadata.{Metadata}
 use Rattle.manifest.specs.laws.OneManifest.{one_held, one_refusal, not_refused}
-use Rattle.wal.specs.Numbering.{Numbers}
+use Rattle.wal.specs.Numbering.{Numbers, taken_from}
 use Rattle.wal.specs.Replaying.{segment_of}
 use Rattle.recovery.specs.Image.{HasLayout, HasLog, Log, before_log, block_in, log_region, longest_value, prefixes_of}
-use Rattle.recovery.specs.Refused.{HasGap, IsLogRefused, IsManifestRefused, IsNotFormed, IsSuperRefused, IsTextRefused, LacksSegment}
+use Rattle.recovery.specs.Refused.{HasGap, IsLogRefused, IsManifestRefused, IsNotFormed, IsSuperRefused, IsTextRefused, IsUnread, LacksSegment, NamesUnknown}
 use Rattle.recovery.specs.declared.region.Region.{Region}
 use Rattle.recovery.specs.declared.region.Region.TheVariants.{Super, Manifest, Log as LogSegment, Slot}
-use Rattle.recovery.proofs.OneLoading.{one_layout}
+use Rattle.recovery.proofs.OneLoading.{one_layout, one_log}
 
 says_no_place : (p : Params) (place : ℕ) → says p ≡ refused place → ⊥
 says_no_place p place is = cc
@@ -84,20 +85,36 @@ module _ (image : List ℕ) where
   halves layout half other p q (inr a) (inr b) =
       ((one_held layout image half other a.1.sequence b.1.sequence a.1.place b.1.place a.1.metadata b.1.metadata a.1.manifest b.1.manifest).0, a.0 ∙ sym b.0)
 
-  logs : (layout : Layout) (m : Metadata) (p q : ℕ) → ((p ≡ 0) × LacksSegment layout image) ⊎ IsTextRefused layout image m p
-      → ((q ≡ 0) × LacksSegment layout image) ⊎ IsTextRefused layout image m q → p ≡ q
-  logs layout m p q (inl a) (inl b) = a.0 ∙ sym b.0
-  logs layout m p q (inl a) (inr b) = absurd (lacking_ends layout b.payloads b.end a.1 b.ends)
-  logs layout m p q (inr a) (inl b) = absurd (lacking_ends layout a.payloads a.end b.1 a.ends)
-  logs layout m p q (inr a) (inr b) = text_text layout m p q a b
+  unread_unread : (layout : Layout) (m : Metadata) (p q : ℕ) → IsUnread layout image m p → IsUnread layout image m q → p ≡ q
+  unread_unread layout m p q (inl a) (inl b) = a.0 ∙ sym b.0
+  unread_unread layout m p q (inl a) (inr b) = absurd (lacking_ends layout b.payloads b.end a.1 b.ends)
+  unread_unread layout m p q (inr a) (inl b) = absurd (lacking_ends layout a.payloads a.end b.1 a.ends)
+  unread_unread layout m p q (inr a) (inr b) = text_text layout m p q a b
+
+  -- a log that is not read is not there
+  unread_log : (layout : Layout) (m : Metadata) (log : Log) (p : ℕ) → HasLog layout image m log → IsUnread layout image m p → ⊥
+  unread_log layout m log p has (inl a) = lacking_ends layout has.payloads (Closed has.tail) a.1 has.ends
+  unread_log layout m log p has (inr a) = text_log layout m log p has a
+
+  logs : (layout : Layout) (m : Metadata) (p q : ℕ) → IsUnread layout image m p ⊎ ((p ≡ 0) × NamesUnknown layout image m)
+      → IsUnread layout image m q ⊎ ((q ≡ 0) × NamesUnknown layout image m) → p ≡ q
+  logs layout m p q (inl a) (inl b) = unread_unread layout m p q a b
+  logs layout m p q (inl a) (inr b) = absurd (unread_log layout m b.1.log p b.1.has_log a)
+  logs layout m p q (inr a) (inl b) = absurd (unread_log layout m a.1.log q a.1.has_log b)
+  logs layout m p q (inr a) (inr b) = a.0 ∙ sym b.0
 
   half_log : (layout : Layout) (half p q : ℕ) (m : Metadata) → IsMetadata layout image m → IsRefused layout image half p ⊎ ((p ≡ 0) × HasGap layout image half)
-      → ((q ≡ 0) × LacksSegment layout image) ⊎ IsTextRefused layout image m q → ⊥
+      → IsUnread layout image m q ⊎ ((q ≡ 0) × NamesUnknown layout image m) → ⊥
   half_log layout half p q m is (inl a) b = not_refused layout image m half p is a
-  half_log layout half p q m is (inr a) (inl b) = lacking_ends layout a.1.has_log.payloads (Closed a.1.has_log.tail) b.1 a.1.has_log.ends
-  half_log layout half p q m is (inr a) (inr b) =
+  half_log layout half p q m is (inr a) b =
       let same = metadata_is layout a.1.metadata m (gap_metadata layout half a.1) is in
-      text_log layout m a.1.log q (subst (λ (n : Metadata). HasLog layout image n a.1.log) same a.1.has_log) b
+      let has = subst (λ (n : Metadata). HasLog layout image n a.1.log) same a.1.has_log in
+      ⊎_elim
+      (λ (one : IsUnread layout image m q). unread_log layout m a.1.log q has one)
+      (λ (one : (q ≡ 0) × NamesUnknown layout image m).
+      let logs = one_log layout image m a.1.log one.1.log has one.1.has_log in
+      a.1.gap ((λ i. taken_from (logs i).next (numbers_of (same i).taken)) ∙ one.1.full))
+      b
 
   manifests : (half other p q : ℕ) → IsManifestRefused image half p → IsManifestRefused image other q → (half ≡ other) × (p ≡ q)
   manifests half other p q a b =
@@ -116,8 +133,8 @@ module _ (image : List ℕ) where
       let held = subst (λ (l : Layout). IsMetadata l image b.metadata) same b.manifest in
       let said = metadata_is a.layout b.metadata a.metadata held a.manifest in
       logs a.layout a.metadata p q a.refused
-      (subst (λ (m : Metadata). ((q ≡ 0) × LacksSegment a.layout image) ⊎ IsTextRefused a.layout image m q) said
-      (subst (λ (l : Layout). ((q ≡ 0) × LacksSegment l image) ⊎ IsTextRefused l image b.metadata q) same b.refused))
+      (subst (λ (m : Metadata). IsUnread a.layout image m q ⊎ ((q ≡ 0) × NamesUnknown a.layout image m)) said
+      (subst (λ (l : Layout). IsUnread l image b.metadata q ⊎ ((q ≡ 0) × NamesUnknown l image b.metadata)) same b.refused))
 
   pub one_place : (a b : Region) (p q : ℕ) → IsNotFormed image a p → IsNotFormed image b q → (a ≡ b) × (p ≡ q)
   one_place Super Super p q x y = (refl, super_super p q x y)

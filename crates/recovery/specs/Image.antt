@@ -1,5 +1,5 @@
 -- What an image of a device says, part by part: its superblock, its manifest and its log.
-use Rattle.std.specs.Prelude.{◌≡◌, ℕ, ◌+◌, ◌-◌, ◌^◌, min, List, [], length, map, Ok}
+use Rattle.std.specs.Prelude.{◌≡◌, ℕ, ◌+◌, ◌-◌, ◌^◌, ◌≤◌, List, [], length, map, Ok}
 use Rattle.hse_fields.specs.LogText.{Entry}
 use Rattle.media_disk.specs.Content.{part}
 use Rattle.gate_log.specs.Places.{region_of}
@@ -7,6 +7,7 @@ use Rattle.gate_log.specs.Reading.{Ends}
 use Rattle.gate_log.specs.declared.front.End.TheVariants.{Closed}
 use Rattle.gate_log.specs.declared.region.Region.{Region}
 use Rattle.gate_log.specs.declared.region.Tail.{Tail}
+use Rattle.hse_rows.specs.writes.Lengths.{longest_value_in}
 use Rattle.hse_rows.specs.machine.Sizes.{device_block}
 use Rattle.hse_rows.specs.machine.TakenRuns.{numbers_of}
 use Rattle.device_layout.specs.Layouts.{IsGood, params_of, segment_of as region_at}
@@ -16,6 +17,7 @@ use Rattle.manifest.specs.Half.{Holds}
 use Rattle.manifest.specs.Metadata.{LiveStore, Metadata}
 use Rattle.wal.specs.Numbering.{Numbers, free_from, taken_from}
 use Rattle.wal.specs.Replaying.{segment_of, starting}
+use Rattle.wal.specs.Stores.{OfEachStore}
 use Rattle.wal.specs.declared.live.StorePrefix.{StorePrefix}
 
 -- ---- the superblock
@@ -33,7 +35,7 @@ pub record HasLayout (image : List ℕ) (layout : Layout) : Type 0 where
 
 -- the most bytes that a value has
 abbrev pub longest_value : Layout → ℕ
-longest_value layout = min 1048576 (2 ^ layout.power - 64)
+longest_value layout = longest_value_in (2 ^ layout.power)
 
 -- the one segment that is needed
 abbrev pub log_region : Layout → Region
@@ -71,6 +73,14 @@ pub record HasLog (layout : Layout) (image : List ℕ) (m : Metadata) (log : Log
 abbrev pub HasNoGap : Metadata → Log → Type 0
 HasNoGap m log = taken_from log.next (numbers_of m.taken) ≡ []
 
+-- the last number: of the horizon, the taken numbers and the entries the greatest
+abbrev pub number_of : Metadata → Log → ℕ
+number_of m log = free_from log.next (numbers_of m.taken) - 1
+
+-- No change of an entry names a store id above the last number.
+abbrev pub NamesKnown : Metadata → Log → Type 0
+NamesKnown m log = OfEachStore (λ (store : ℕ). store ≤ number_of m log) log.entries
+
 -- ---- the whole image
 
 -- What is loaded of an image: its layout, where its manifest stands and what it says, and its log.
@@ -88,11 +98,8 @@ pub record IsLoaded (image : List ℕ) (loaded : Loaded) : Type 0 where
   pub manifest : Holds loaded.layout loaded.half loaded.sequence loaded.place image loaded.metadata
   pub log : HasLog loaded.layout image loaded.metadata loaded.log
   pub full : HasNoGap loaded.metadata loaded.log
+  pub named : NamesKnown loaded.metadata loaded.log
 
 -- The image is formed: nothing of it is refused.
 abbrev pub IsFormed : List ℕ → Type 0
 IsFormed image = (loaded : Loaded) × IsLoaded image loaded
-
--- the last number: of the horizon, the taken numbers and the entries the greatest
-abbrev pub number_of : Metadata → Log → ℕ
-number_of m log = free_from log.next (numbers_of m.taken) - 1

@@ -1,6 +1,10 @@
 pub mod Image
 pub mod Stored
+pub mod Layer
+pub mod Opened
 pub mod Refused
 pub mod Answers
 pub mod Keeps
 pub mod Formatting
+pub mod laws
+pub mod Machine

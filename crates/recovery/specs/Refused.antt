@@ -12,7 +12,7 @@ use Rattle.manifest.specs.Half.{Holds, IsMetadata, IsRefused}
 use Rattle.manifest.specs.Metadata.{Metadata}
 use Rattle.wal.specs.Numbering.{taken_from}
 use Rattle.wal.specs.Replaying as log
-use Rattle.recovery.specs.Image.{Log, IsFormed, HasLayout, HasLog, before_log, block_in, log_region, longest_value, prefixes_of}
+use Rattle.recovery.specs.Image.{Log, IsFormed, HasLayout, HasLog, HasNoGap, NamesKnown, before_log, block_in, log_region, longest_value, prefixes_of}
 use Rattle.recovery.specs.declared.region.Region.{Region}
 use Rattle.recovery.specs.declared.region.Region.TheVariants.{Super, Manifest, Log as LogSegment, Slot}
 
@@ -49,12 +49,23 @@ pub record IsTextRefused (layout : Layout) (image : List ℕ) (m : Metadata) (pl
       log.segment_of (prefixes_of m.stores) (longest_value layout) (before_log layout m) payloads end ≡ Err place
 
 -- The segment does not count, and is refused at its head, or the text of its batches is refused.
+abbrev pub IsUnread : Layout → List ℕ → Metadata → ℕ → Type 0
+IsUnread layout image m place = ((place ≡ 0) × LacksSegment layout image) ⊎ IsTextRefused layout image m place
+
+-- A change names a store id above the last number, where taken numbers leave no gap: the segment is refused at its head.
+pub record NamesUnknown (layout : Layout) (image : List ℕ) (m : Metadata) : Type 0 where
+  pub log : Log
+  pub has_log : HasLog layout image m log
+  pub full : HasNoGap m log
+  pub unknown : ¬ NamesKnown m log
+
+-- The log is not read, or its changes name a store id above the last number.
 pub record IsLogRefused (image : List ℕ) (place : ℕ) : Type 0 where
   pub layout : Layout
   pub layout_is : HasLayout image layout
   pub metadata : Metadata
   pub manifest : IsMetadata layout image metadata
-  pub refused : ((place ≡ 0) × LacksSegment layout image) ⊎ IsTextRefused layout image metadata place
+  pub refused : IsUnread layout image metadata place ⊎ ((place ≡ 0) × NamesUnknown layout image metadata)
 
 -- Taken numbers leave a gap behind the last entry: the half in force is refused at its head.
 pub record HasGap (layout : Layout) (image : List ℕ) (half : ℕ) : Type 0 where

@@ -5,11 +5,13 @@ mod fault;
 mod formatting;
 mod forming;
 mod laws;
+mod layer;
 mod logs;
 mod opening;
 mod recovered;
 mod region;
 mod superblocks;
+mod views;
 
 pub use fault::{FormatFault, OpenFault};
 pub use formatting::format;

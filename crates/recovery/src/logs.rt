@@ -5,33 +5,39 @@ ghost use Rattle.gate_log.specs.Places.{region_of};
 ghost use Rattle.gate_log.specs.Reading.{EndsInside, IsFront};
 ghost use Rattle.device_layout.specs.Layouts.{IsGood, size_of_device};
 ghost use Rattle.manifest.specs.Views.{metadata_as, stores_as};
-ghost use Rattle.wal.specs.Charges.{charges};
-ghost use Rattle.wal.specs.Logged.{entries_of};
-ghost use Rattle.recovery.specs.Answers.{IsLogRead, IsQuiet, OpenReports};
+ghost use Rattle.recovery.specs.Answers.{IsLogRead, IsQuiet, IsSoundLog, OpenReports};
 ghost use Rattle.recovery.specs.Image.{log_region, longest_value, prefixes_of};
 
+use crate::layer::ActiveLayer;
 use crate::{OpenFault, Region};
 use device_layout::Layout;
 use gate_log::{Front, FrontFault, read_front};
 use hse_io::NoMemory;
+use hse_rows::{TakenRun, longest_value};
+use ingest_tree::IngestTree;
 use manifest::{Base, BaseStore};
 use media_disk::Disk;
 use std::alloc::Global;
-use wal::{Segment, SegmentFault, StorePrefix, segment_in};
+use wal::{SegmentEnd, SegmentFault, StorePrefix, segment_into};
 
 /// The sequence of the one segment that is needed, and its place among the segments.
 pub(crate) const FIRST: u64 = 1;
 
-/// The most bytes of a value on any device.
-const LONGEST_VALUE: u64 = 1_048_576;
+/// What was read of a log: how it ends, the rows of its commits, and the greatest store id that their
+/// changes name, or 0.
+#[derive(Drop)]
+pub(crate) struct ReadLog {
+    pub(crate) end: SegmentEnd,
+    pub(crate) rows: IngestTree,
+    pub(crate) named: u64,
+}
 
 /// The most bytes that a value has on this device.
 fn longest(layout: Layout) -> u64
     requires { IsGood layout }
     ensures { result ≡ longest_value layout }
 {
-    let slot = 2u64.pow(layout.power as u32);
-    LONGEST_VALUE.min(slot.saturating_sub(64))
+    longest_value(2u64.pow(layout.power as u32))
 }
 
 /// The prefix lengths of these stores.
@@ -50,19 +56,18 @@ fn prefixes(alloc: Global, stores: &[BaseStore]) -> Result<Vec<StorePrefix>, NoM
     Ok(live)
 }
 
-/// The segment that its front says, behind this base.
+/// The log that its front says, behind this base.
 fn log_of(
     alloc: Global,
     layout: Layout,
     base: &Base,
     front: Option<Front>,
-) -> Result<Segment, OpenFault>
+) -> Result<ReadLog, OpenFault>
     requires good { IsGood layout }
     requires inside { EndsInside layout.log front }
     ensures log { (image : List ℕ) → IsFront (region_of (log_region layout) image) front
         → IsLogRead layout image (metadata_as base.now) result }
-    ensures small { IfOk result (λ log. log.next ≤ 2 ^ 62 + 1) }
-    ensures charged { IfOk result (λ log. log.charges ≡ charges (entries_of log.commits.items)) }
+    ensures sound { IfOk result (IsSoundLog layout.log) }
     ensures quiet { IsQuiet result }
 {
     let Some(front) = front else {
@@ -76,8 +81,20 @@ fn log_of(
     };
     let most = longest(layout);
     let next = base.horizon + 1;
-    match segment_in(alloc, layout.log, most, next, &base.taken, &live, front) {
-        Ok(segment) => Ok(segment),
+    let taken: &[TakenRun] = &base.taken;
+    let mut layer = ActiveLayer {
+        alloc,
+        rows: IngestTree::empty(),
+        named: 0,
+    };
+    match segment_into(
+        alloc, layout.log, most, next, taken, &live, front, &mut layer,
+    ) {
+        Ok(end) => Ok(ReadLog {
+            end,
+            rows: layer.rows,
+            named: layer.named,
+        }),
         Err(SegmentFault::Damaged(place)) => {
             Err(OpenFault::NotFormed(Region::Log(FIRST as u8), place))
         }
@@ -91,12 +108,11 @@ pub(crate) fn read_log<D: Disk>(
     disk: &mut D,
     layout: Layout,
     base: &Base,
-) -> Result<Segment, OpenFault>
+) -> Result<ReadLog, OpenFault>
     requires good { IsGood layout }
     requires inside { size_of_device layout ≤ D.extent disk.old }
     ensures log { D.tells → IsLogRead layout (D.seen disk.old) (metadata_as base.now) result }
-    ensures small { IfOk result (λ log. log.next ≤ 2 ^ 62 + 1) }
-    ensures charged { IfOk result (λ log. log.charges ≡ charges (entries_of log.commits.items)) }
+    ensures sound { IfOk result (IsSoundLog layout.log) }
     ensures calls { CallsMade D.Device disk.old disk.new }
     ensures reports { OpenReports D.Device disk.old disk.new result }
     ensures reads { OnlyReads D.Device disk.old disk.new }

@@ -2,48 +2,64 @@
 ghost use Rattle.std.specs.Prelude.{◌≡◌, ◌≤◌, ◌+◌, ◌^◌, [], ℕ, List, Ok, IfOk, OnOk};
 ghost use Rattle.hse_io.specs.Faults.{next_count};
 ghost use Rattle.media_disk.specs.Calls.{CallsMade};
-ghost use Rattle.device_layout.specs.Layouts.{size_of_device};
+ghost use Rattle.device_layout.specs.Layouts.{IsGood, size_of_device};
 ghost use Rattle.manifest.specs.Loading.{IsLoad};
 ghost use Rattle.manifest.specs.Views.{metadata_as};
-ghost use Rattle.wal.specs.Charges.{charges};
-ghost use Rattle.wal.specs.Logged.{entries_of};
-ghost use Rattle.recovery.specs.Answers.{IsLogRead, IsQuiet, IsRecovery, OpenReports};
+ghost use Rattle.manifest.specs.Metadata.{AreApart};
+ghost use Rattle.recovery.specs.Answers.{IsLogRead, IsQuiet, IsRecovery, HasParts, IsSoundLog, OpenReports};
 ghost use Rattle.recovery.specs.Image.{HasLayout};
 ghost use Rattle.recovery.specs.Keeps.{Keeps};
 
-use crate::logs::read_log;
+use crate::logs::{FIRST, ReadLog, read_log};
 use crate::superblocks::read_layout;
+use crate::views::view_over;
 use crate::{OpenFault, Recovered, Region};
 use device_layout::Layout;
 use manifest::{LoadFault, Loaded, load};
 use media_disk::Disk;
 use std::alloc::Global;
-use wal::{Segment, first_free};
+use view::layers_take_writes;
+use wal::{Ring, first_free};
 
-/// What was read of a device, where taken numbers leave no gap behind its log.
+/// What was read of a device, where taken numbers leave no gap behind its log, and the log names no
+/// store id above the last number.
 fn recovered_of(
+    alloc: Global,
     layout: Layout,
     loaded: Loaded,
-    log: Segment,
+    log: ReadLog,
     moment: u64,
 ) -> Result<Recovered, OpenFault>
-    requires { log.next ≤ 2 ^ 62 + 1 }
+    requires sound { IsSoundLog layout.log log }
+    requires apart { AreApart (metadata_as loaded.base) }
+    requires good { IsGood layout }
+    requires manifest { loaded.manifest.layout ≡ layout }
     ensures recovered { (image : List ℕ) → HasLayout image layout → IsLoad layout image (Ok loaded)
         → IsLogRead layout image (metadata_as loaded.base) (Ok log) → IsRecovery image result }
-    ensures parts { IfOk result (λ r. (r.layout ≡ layout) × (r.log ≡ log)
-        × (r.moment ≡ moment)) }
+    ensures parts { IfOk result HasParts }
+    ensures given { IfOk result (λ r. (r.layout ≡ layout) × (r.moment ≡ moment)) }
     ensures quiet { IsQuiet result }
 {
-    let (next, behind) = first_free(log.next, &loaded.base.taken);
+    layers_take_writes();
+    let (next, behind) = first_free(log.end.next, &loaded.base.taken);
     if !behind.is_empty() {
         return Err(OpenFault::NotFormed(Region::Manifest(loaded.manifest.half), 0));
     }
+    let number = next.saturating_sub(1);
+    if log.named > number {
+        return Err(OpenFault::NotFormed(Region::Log(FIRST as u8), 0));
+    }
+    let place = Ring::of(layout.segment(FIRST as u8), log.end);
+    let Ok(view) = view_over(alloc, &loaded.base, number, log.rows) else {
+        return Err(OpenFault::NoMemory);
+    };
     Ok(Recovered {
+        view,
         layout,
+        log: place,
         manifest: loaded.manifest,
         base: loaded.base,
-        log,
-        number: next.saturating_sub(1),
+        number,
         moment,
     })
 }
@@ -55,7 +71,7 @@ fn recovered_of(
 /// failed. Nothing is written; after `Ok` nothing is pending.
 pub fn recover<D: Disk>(alloc: Global, disk: &mut D) -> Result<Recovered, OpenFault>
     ensures recovered { D.tells → IsRecovery (D.seen disk.old) result }
-    ensures charged { IfOk result (λ r. r.log.charges ≡ charges (entries_of r.log.commits.items)) }
+    ensures parts { IfOk result HasParts }
     ensures moment { IfOk result (λ r. r.moment ≡ next_count (D.clock disk.old)) }
     ensures inside { IfOk result (λ r. size_of_device r.layout ≤ D.extent disk.new) }
     ensures calls { CallsMade D.Device disk.old disk.new }
@@ -77,5 +93,5 @@ pub fn recover<D: Disk>(alloc: Global, disk: &mut D) -> Result<Recovered, OpenFa
         Err(LoadFault::NoMemory) => return Err(OpenFault::NoMemory),
     };
     let log = read_log(alloc, disk, layout, &loaded.base)?;
-    recovered_of(layout, loaded, log, moment)
+    recovered_of(alloc, layout, loaded, log, moment)
 }

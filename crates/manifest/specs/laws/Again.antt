@@ -9,6 +9,7 @@ use Rattle.hse_fields.specs.Fields.{number_of}
 use Rattle.hse_fields.specs.LogReading.{◌>>=◌}
 use Rattle.hse_fields.specs.LogText.{sized}
 use Rattle.hse_fields.specs.laws.Fields.{number_again, bytes_again, size_again}
+use Rattle.hse_rows.specs.writes.Lengths.{longest_prefix}
 use Rattle.hse_rows.specs.declared.store.Mode.{Mode}
 use Rattle.hse_rows.specs.declared.store.Mode.TheVariants.{Plain, Tx}
 use Rattle.hse_rows.specs.machine.TakenRuns.{NumberRun, longest_run}
@@ -35,7 +36,7 @@ unfolding described_of
 described_again stores store rest is =
     let text : described_text store ++ rest ≡ sized 1 store.name ++ (big_bytes 1 (mode_code store.mode) ++ (big_bytes 1 store.prefix_length ++ rest)) =
     append_assoc (sized 1 store.name) (big_bytes 1 (mode_code store.mode) ++ big_bytes 1 store.prefix_length) rest in
-    let short : nat_le store.prefix_length 32 ≡ true = le-leb _ _ is.short in
+    let short : nat_le store.prefix_length longest_prefix ≡ true = le-leb _ _ is.short in
     ap (described_of stores store.id) text
     ∙ rw (
       name_again stores store.name (big_bytes 1 (mode_code store.mode) ++ (big_bytes 1 store.prefix_length ++ rest)) is.name is.free,

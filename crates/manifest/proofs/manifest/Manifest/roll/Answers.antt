@@ -6,14 +6,14 @@ use Rattle.gate_log.specs.laws.Regions.{other_region}
 use Rattle.device_layout.specs.Layouts.{half_of}
 use Rattle.manifest.specs.Half.{Holds}
 use Rattle.manifest.proofs.HeadLemmas.{half_apart}
-use Rattle.manifest.proofs.RollLemmas.{start_crash, base_crash, new_holds, apart_back}
+use Rattle.manifest.proofs.RollLemmas.{is_small, start_crash, base_crash, new_holds, apart_back}
 use Rattle.manifest.proofs.manifest.Manifest.roll.Goals as goal
 
 pub returns-in_default-clause-crash : goal.returns-in_default-clause-crash
 returns-in_default-clause-crash g c = λ told before after held read apart.
     let m = c.args.self.now in
     let size : 10 ≤ m.layout.manifest = omega (arith, m.good.params.half.least) in
-    let small : m.sequence < 2 ^ 62 = omega (arith, c.if-self-ge-GREATEST_SEQUENCE.false) in
+    let small : m.sequence < 2 ^ 62 = is_small m.sequence (c.can_roll.ensures.0 c.if-not-can_roll.false) in
     let crash = rw c.half-region.ensures at (c.start.ensures.crash told) in
     leaves_more g.D.Device c.args.disk.now c.start.new.disk _ _
     (crash (half_apart m.layout m.half m.one (g.D.Device.pending c.args.disk.now) apart).1)
@@ -23,7 +23,7 @@ pub returns-in_err-append-clause-crash : goal.returns-in_err-append-clause-crash
 returns-in_err-append-clause-crash g c = λ told before after held read apart.
     let m = c.args.self.now in
     let size : 10 ≤ m.layout.manifest = omega (arith, m.good.params.half.least) in
-    let small : m.sequence < 2 ^ 62 = omega (arith, c.if-self-ge-GREATEST_SEQUENCE.false) in
+    let small : m.sequence < 2 ^ 62 = is_small m.sequence (c.can_roll.ensures.0 c.if-not-can_roll.false) in
     let crash = rw c.half-region.ensures at (c.start.ensures.crash told) in
     let started = rw c.half-region.ensures at (c.in-Ok.ensures.started told) in
     let torn = rw c.half-region.ensures at (c.start.ensures.others told) in
@@ -43,7 +43,7 @@ pub returns-clause-rolled : goal.returns-clause-rolled
 returns-clause-rolled g c = λ told before after held read.
     let m = c.args.self.now in
     let size : 10 ≤ m.layout.manifest = omega (arith, m.good.params.half.least) in
-    let small : m.sequence < 2 ^ 62 = omega (arith, c.if-self-ge-GREATEST_SEQUENCE.false) in
+    let small : m.sequence < 2 ^ 62 = is_small m.sequence (c.can_roll.ensures.0 c.if-not-can_roll.false) in
     let started = rw c.half-region.ensures at (c.in-Ok.ensures.started told) in
     let first = rw c.half-region.ensures at (c.start.ensures.others told) in
     let more = rw c.half-region.ensures at (c.append.ensures.others told) in
@@ -61,7 +61,7 @@ pub returns-clause-crash : goal.returns-clause-crash
 returns-clause-crash g c = λ told before after held read apart.
     let m = c.args.self.now in
     let size : 10 ≤ m.layout.manifest = omega (arith, m.good.params.half.least) in
-    let small : m.sequence < 2 ^ 62 = omega (arith, c.if-self-ge-GREATEST_SEQUENCE.false) in
+    let small : m.sequence < 2 ^ 62 = is_small m.sequence (c.can_roll.ensures.0 c.if-not-can_roll.false) in
     let crash = rw c.half-region.ensures at (c.start.ensures.crash told) in
     let started = rw c.half-region.ensures at (c.in-Ok.ensures.started told) in
     let torn = rw c.half-region.ensures at (c.start.ensures.others told) in
