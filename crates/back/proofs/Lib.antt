@@ -1,0 +1,12 @@
+pub mod NumberLemmas
+pub mod StoreLemmas
+pub mod CommitLemmas
+pub mod NamedLemmas
+pub mod ImageLemmas
+pub mod LogLemmas
+pub mod SyncLemmas
+pub mod EntryLemmas
+pub mod EnterLemmas
+pub mod TurnLemmas
+pub mod FoldLemmas
+pub mod PlanLemmas

@@ -1,0 +1,14 @@
+use Rattle.back.proofs.FoldLemmas.{commits_fold, creation_happens, drop_happens, event_back}
+use Rattle.back.proofs.laws.turns_store_the_next_states.Goals as goal
+
+pub returns-clause-commits : goal.returns-clause-commits
+returns-clause-commits c = λ image loaded commits says. commits_fold image loaded commits says
+
+pub returns-clause-event : goal.returns-clause-event
+returns-clause-event c = event_back
+
+pub returns-clause-creation : goal.returns-clause-creation
+returns-clause-creation c = creation_happens
+
+pub returns-clause-drop : goal.returns-clause-drop
+returns-clause-drop c = drop_happens

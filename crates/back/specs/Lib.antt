@@ -1,0 +1,5 @@
+pub mod Steps
+pub mod Home
+pub mod Leaving
+pub mod Plans
+pub mod Events

@@ -1,0 +1,73 @@
+//! Laws of what is loaded after a turn. These functions do nothing; their contracts are the laws.
+ghost use Rattle.std.specs.Prelude.{◌≡◌, ◌+◌, ◌≤◌, ℕ, List, length, false, true, Ok, Err};
+ghost use Rattle.gate_log.specs.Places.{need_of};
+ghost use Rattle.hse_fields.specs.LogText.{Entry as a_commit};
+ghost use Rattle.hse_rows.specs.machine.ManifestRoom.{gained, goes_into_no_half, half_room, ManifestState};
+ghost use Rattle.hse_rows.specs.machine.TakenRuns.{numbers_of};
+ghost use Rattle.hse_rows.specs.states.History.{commits, creates, drops, folded, happened};
+ghost use Rattle.manifest.specs.Metadata.{LiveStore};
+ghost use Rattle.manifest.specs.Text.{Entry as an_entry, create, drop, base_text, entry_text};
+ghost use Rattle.recovery.specs.Image.{IsLoaded, Loaded};
+ghost use Rattle.recovery.specs.Stored.{state_of};
+ghost use Rattle.manifest.specs.declared.manifest.Manifest.{Manifest as a_manifest};
+ghost use Rattle.wal.specs.Logged.{entry_of};
+ghost use Rattle.wal.specs.declared.commit.Commit.{Commit as a_wal_commit};
+ghost use Rattle.back.specs.Events.{event_of, events_of, manifest_of};
+ghost use Rattle.back.specs.Plans.{HasRoomFor, IsCounted, IsPlan};
+ghost use Rattle.back.specs.declared.plan.EntryPlan.{EntryPlan as a_plan};
+ghost use Rattle.back.specs.declared.plan.PlanFault.TheVariants.{ManifestFull};
+ghost use Rattle.back.specs.Steps.{last_number, metadata_with, with_commits, with_entry, MayEnter};
+
+/// What is stored after a batch of commits is the state after them, as events behind what was
+/// stored before; and so after a creation and a drop. A commit that the log spells is the event of
+/// its writes.
+pub fn turns_store_the_next_states()
+    ensures commits { (image : List ℕ) (loaded : Loaded) (commits : List a_commit)
+        → IsLoaded image loaded → state_of (with_commits loaded commits)
+        ≡ folded (state_of loaded) (events_of commits) }
+    ensures creation { (image : List ℕ) (loaded : Loaded) (store : LiveStore)
+        → IsLoaded image loaded → MayEnter loaded (create store)
+        → state_of (with_entry loaded (create store)) ≡ happened (state_of loaded)
+        (creates store.name store.mode store.prefix_length) }
+    ensures drop { (image : List ℕ) (loaded : Loaded) (number id : ℕ)
+        → IsLoaded image loaded → MayEnter loaded (drop number id)
+        → state_of (with_entry loaded (drop number id)) ≡ happened (state_of loaded) (drops id) }
+    ensures event { (commit : a_wal_commit)
+        → event_of (entry_of commit) ≡ commits commit.writes }
+{}
+
+/// The last number after a turn, by its commits and its entry.
+pub fn turns_count_their_events()
+    ensures commits { (image : List ℕ) (loaded : Loaded) (commits : List a_commit)
+        → IsLoaded image loaded
+        → last_number (with_commits loaded commits) ≡ last_number loaded + length commits }
+    ensures entry { (image : List ℕ) (loaded : Loaded) (entry : an_entry)
+        → IsLoaded image loaded → MayEnter loaded entry
+        → last_number (with_entry loaded entry) ≡ last_number loaded + 1 }
+{}
+
+/// After a creation and a drop the manifest has what the machine counts: its sequence, its bytes
+/// and its taken numbers.
+pub fn manifests_gain_as_the_machine_counts()
+    ensures { (loaded : Loaded) (entry : an_entry)
+        → manifest_of (with_entry loaded entry) ≡ gained loaded.layout.manifest
+        (manifest_of loaded) (need_of (entry_text entry))
+        (need_of (base_text (metadata_with loaded.metadata entry)))
+        (numbers_of (metadata_with loaded.metadata entry).taken) }
+{}
+
+/// A planned entry has room. There is a plan exactly where the machine finds room for the entry, or
+/// for all of its state in the other half; else need and room are the machine's.
+pub fn plans_are_as_the_machine_counts()
+    ensures room { (manifest : a_manifest) (entry after : List ℕ) (plan : a_plan)
+        → IsPlan manifest entry after (Ok plan) → HasRoomFor manifest plan }
+    ensures plan { (manifest : a_manifest) (state : ManifestState) (entry after : List ℕ)
+        (plan : a_plan) → IsCounted manifest state → IsPlan manifest entry after (Ok plan)
+        → goes_into_no_half manifest.layout.manifest state (need_of entry) (need_of after)
+        ≡ false }
+    ensures full { (manifest : a_manifest) (state : ManifestState) (entry after : List ℕ)
+        (need room : ℕ) → IsCounted manifest state
+        → IsPlan manifest entry after (Err (ManifestFull need room))
+        → (goes_into_no_half manifest.layout.manifest state (need_of entry) (need_of after)
+        ≡ true) × (need ≡ need_of after) × (room ≡ half_room manifest.layout.manifest) }
+{}
