@@ -1,0 +1,11 @@
+pub mod LiveLemmas
+pub mod LoggedLemmas
+pub mod SoundLemmas
+pub mod RefusalLemmas
+pub mod LayerLemmas
+pub mod EndLemmas
+pub mod CommitLemmas
+pub mod NormalLemmas
+pub mod CommitTables
+pub mod TxnLemmas
+pub mod PlainLemmas

@@ -1,0 +1,23 @@
+//! The engine without its device: the present view, the locks, the live transactions and what waits.
+#![tactic(auto)]
+
+mod begin;
+mod commit;
+mod cursors;
+mod ending;
+mod faults;
+mod layers;
+mod lengths;
+mod limits;
+mod live;
+mod logging;
+mod opening;
+mod plain;
+mod sizes;
+mod state;
+mod turns;
+
+pub use cursors::CursorPlace;
+pub use faults::{BeginFault, CommitFault, CursorsFull, WriteFault};
+pub use sizes::EngineSizes;
+pub use state::EngineState;
