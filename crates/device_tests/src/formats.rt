@@ -30,7 +30,7 @@ fn is_new(rt: &impl Abort, alloc: Global, disk: &mut MemDisk) -> bool {
         Ok(found) => {
             assert!(rt; found.number == 0);
             assert!(rt; found.base.stores.is_empty());
-            assert!(rt; found.log.commits.is_empty());
+            assert!(rt; found.log.charges == 0);
             true
         }
         Err(_) => false,

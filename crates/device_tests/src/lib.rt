@@ -1,12 +1,18 @@
-//! Tests of the device's layout and its manifest over their public calls.
+//! Tests of the device's layout, its manifest, its opening and its turns over their public calls.
 #![tactic(auto)]
 
 #[cfg(test)]
 mod device;
 #[cfg(test)]
+mod filled;
+#[cfg(test)]
 mod formats;
 #[cfg(test)]
+mod full;
+#[cfg(test)]
 mod loads;
+#[cfg(test)]
+mod names;
 #[cfg(test)]
 mod recovers;
 #[cfg(test)]
@@ -15,3 +21,7 @@ mod rolls;
 mod spells;
 #[cfg(test)]
 mod superblocks;
+#[cfg(test)]
+mod turns;
+#[cfg(test)]
+mod views;

@@ -47,6 +47,17 @@ fn a_device_has_this_size_and_its_parts_lie_there(rt: HostRuntime) -> Result<(),
         ..PARAMS
     };
     assert!(rt; Layout::of(large).is_none());
+    let most = Params {
+        manifest: 67_108_864,
+        stores: 4_096,
+        ..PARAMS
+    };
+    assert!(rt; Layout::of(most).is_some());
+    let large = Params {
+        manifest: 67_112_960,
+        ..PARAMS
+    };
+    assert!(rt; Layout::of(large).is_none());
     Ok(())
 }
 

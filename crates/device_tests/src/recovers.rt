@@ -1,5 +1,6 @@
 //! What a whole device stores, and where it is refused.
 use crate::device::{CREATE, EMPTY, FULL, SIZE, fill, layout, with_batches};
+use hse_rows::StoreName;
 use media_disk::{Disk, MemDisk};
 use recovery::{OpenFault, Recovered, Region, recover};
 use std::alloc::Global;
@@ -7,7 +8,7 @@ use std::process::Abort;
 use std::test::Fail;
 
 /// A batch of the log: commit 2 puts the value `v` at the key `k` of store 1.
-const PUT: [u8; 33] = [
+pub(crate) const PUT: [u8; 33] = [
     0, 0, 0, 1, 0, 0, 0, 0, 0, 0, 0, 2, 0, 0, 0, 1, // one commit, number 2, one change
     1, 0, 0, 0, 0, 0, 0, 0, 1, 0, 1, 0x6B, 0, 0, 0, 1, 0x76, // put, store 1, key, value
 ];
@@ -36,6 +37,11 @@ pub(crate) fn device(
     Ok(bytes)
 }
 
+/// The bytes of a device with the store 1 and commit 2.
+pub(crate) fn formed(rt: &impl Abort, alloc: Global) -> Result<Vec<u8>, Fail> {
+    device(rt, alloc, &[&EMPTY, &CREATE], &[&PUT])
+}
+
 /// What the device of these bytes stores, one of them changed.
 fn changed(
     alloc: Global,
@@ -61,7 +67,9 @@ fn a_formed_device_is_recovered(rt: HostRuntime) -> Result<(), Fail> {
     assert_eq!(rt; found.layout, layout(&rt));
     assert_eq!(rt; found.manifest.sequence(), 1);
     assert_eq!(rt; found.base.stores.len(), 1);
-    assert_eq!(rt; found.log.commits.len(), 1);
+    assert_eq!(rt; found.log.sequence, 1);
+    let name = StoreName::new(alloc, b"s")?;
+    assert_eq!(rt; found.view.get(&name, b"k"), Ok(Some(b"v".as_slice())));
     assert_eq!(rt; found.log.charges, 61);
     assert_eq!(rt; found.log.tail.place, 47);
     assert_eq!(rt; found.moment, 1);
@@ -110,17 +118,29 @@ fn a_refused_field_has_its_part_and_place(rt: HostRuntime) -> Result<(), Fail> {
     Ok(())
 }
 
+/// The size of a device that is cut off, and the place of the superblock that is refused.
+static CUTS: [(usize, u64); 8] = [
+    (0, 0),
+    (1, 1),
+    (4_095, 4_095),
+    (4_096, 4_096),
+    (69_700, 4_096),
+    (SEGMENT, 4_096),
+    (SEGMENT + 47, 4_096),
+    (SIZE - 1, 4_096),
+];
+
 #[test]
-fn a_short_device_is_refused_at_its_size(rt: HostRuntime) -> Result<(), Fail> {
+fn a_device_that_is_cut_off_is_refused_at_its_size(rt: HostRuntime) -> Result<(), Fail> {
     let alloc = rt.alloc();
-    for size in [0, 100, 4_095] {
-        let mut disk = MemDisk::of(alloc, vec![in alloc; 0x4F; size]?);
+    let bytes = device(&rt, alloc, &[&EMPTY, &CREATE], &[&PUT])?;
+    for (size, want) in &CUTS {
+        let Some(front) = bytes.get(..*size) else {
+            return Err("no such size".into());
+        };
+        let mut disk = MemDisk::of(alloc, front.to_vec(alloc)?);
         let fault = recover(alloc, &mut disk).err();
-        assert_eq!(rt;
-            fault,
-            Some(OpenFault::NotFormed(Region::Super, size as u64))
-        );
+        assert_eq!(rt; fault, Some(OpenFault::NotFormed(Region::Super, *want)));
     }
-    assert_eq!(rt; SIZE, 659_456);
     Ok(())
 }

@@ -2,18 +2,12 @@
 #![tactic(auto)]
 
 #[cfg(test)]
-mod counted;
-#[cfg(test)]
 mod ingest_trees;
 #[cfg(test)]
 mod locks;
 #[cfg(test)]
 mod merges;
 #[cfg(test)]
-mod reading;
-#[cfg(test)]
 mod sets;
 #[cfg(test)]
 mod trees;
-#[cfg(test)]
-mod views;

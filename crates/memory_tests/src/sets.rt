@@ -34,7 +34,7 @@ fn number_of(row: Option<RowRef<'_>>) -> Option<u64> {
 }
 
 /// A tree with one set, at the root.
-pub(crate) fn tree_of<R: Shared>(alloc: Global, set: R) -> Result<Tree<R>, NoMemory>
+fn tree_of<R: Shared>(alloc: Global, set: R) -> Result<Tree<R>, NoMemory>
     ensures { IfOk result (λ tree. tree
         ≡ record { prefix_length = 0; nodes = in_front [] [] set }) }
 {

@@ -9,7 +9,7 @@ use Rattle.view.specs.Views.{view_of, rest_of}
 use Rattle.view.specs.Means.{IsView}
 use Rattle.view.specs.Routed.{FitsStore, StandsAt}
 use Rattle.sorted_lists.specs.laws.Lists.{each-weaker}
-use Rattle.memory_tests.proofs.counted.view_of.Goals as goal
+use Rattle.view_tests.proofs.counted.view_of.Goals as goal
 
 each-all : {X : Type 0} (P : X → Type 0) → ((x : X) → P x) → (xs : List X) → AllByRecursion P xs
 each-all P all [] = tt

@@ -8,7 +8,7 @@ use Rattle.cn_tree.specs.Tree.{sets_on}
 use Rattle.view.specs.declared.view_store.ViewStore.{ViewStore}
 use Rattle.view.specs.Views.{view_of, rest_of}
 use Rattle.view.specs.Means.{layer_rows, IsView}
-use Rattle.memory_tests.proofs.views.view_of.Goals as goal
+use Rattle.view_tests.proofs.views.view_of.Goals as goal
 
 each-all : {X : Type 0} (P : X → Type 0) → ((x : X) → P x) → (xs : List X) → AllByRecursion P xs
 each-all P all [] = tt

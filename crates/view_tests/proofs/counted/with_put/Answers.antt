@@ -5,7 +5,7 @@ use Rattle.ingest_tree.specs.Rows.{store_row, row_numbered}
 use Rattle.hse_rows.specs.declared.change.Change.TheVariants.{Put}
 use Rattle.view.specs.Layers.{each-with}
 use Rattle.view.specs.Routed.{FitsStore}
-use Rattle.memory_tests.proofs.counted.with_put.Goals as goal
+use Rattle.view_tests.proofs.counted.with_put.Goals as goal
 
 pub returns : goal.returns
 returns c =

@@ -4,7 +4,7 @@ use Rattle.std.proofs.lemmas.Result.{IfOk-weaker}
 use Rattle.ingest_tree.specs.declared.store_row.StoreRow.{StoreRow}
 use Rattle.ingest_tree.specs.Rows.{store_row, row_numbered}
 use Rattle.view.specs.Layers.{each-with}
-use Rattle.memory_tests.proofs.reading.with_row.Goals as goal
+use Rattle.view_tests.proofs.reading.with_row.Goals as goal
 
 pub returns : goal.returns
 returns c =

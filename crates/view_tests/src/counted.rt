@@ -1,11 +1,12 @@
 //! A view and a cursor copy no rows of a set: a set that counts its calls.
-ghost use Rattle.std.specs.Prelude.{◌≡◌, ◌≤◌, List, IfOk};
+ghost use Rattle.std.specs.Prelude.{◌≡◌, ◌≤◌, List, [], IfOk};
+ghost use Rattle.cn_tree.specs.Tree.{in_front};
 ghost use Rattle.std.specs.List.{AllByRecursion};
 ghost use Rattle.hse_rows.specs.declared.row.Row.{Row as one_row};
 ghost use Rattle.ingest_tree.specs.declared.store_row.StoreRow.{StoreRow as a_row};
 ghost use Rattle.view.specs.Routed.{FitsStore};
 
-use crate::sets::tree_of;
+use cn_tree::{NodePath, Tree};
 use cursors::Cursor;
 use hse_io::NoMemory;
 use hse_rows::{Change, Edge, Key, Mode, Row, RowRef, RowSet, Shared, StoreId, StoreName, Value};
@@ -98,6 +99,14 @@ fn rows_of(alloc: Global) -> Result<StoreRows, Fail>
         layer = with_put(alloc, &layer, &at.to_be_bytes())?;
     }
     Ok(layer.rows(alloc, StoreId(1))?)
+}
+
+/// A tree with one set, at the root.
+fn tree_of<R: Shared>(alloc: Global, set: R) -> Result<Tree<R>, NoMemory>
+    ensures { IfOk result (λ tree. tree
+        ≡ record { prefix_length = 0; nodes = in_front [] [] set }) }
+{
+    Tree::empty(0).put_front(alloc, &NodePath::root(), set)
 }
 
 /// A view of one store with one set, at the root.

@@ -3,7 +3,7 @@ use Rattle.std.specs.List.{AllByRecursion}
 use Rattle.hse_rows.specs.declared.row.Row.{Row}
 use Rattle.view.specs.Layers.{row-each, each-of_store}
 use Rattle.view.specs.Routed.{FitsStore}
-use Rattle.memory_tests.proofs.counted.rows_of.Goals as goal
+use Rattle.view_tests.proofs.counted.rows_of.Goals as goal
 
 abbrev IsOldPut : Row → Type 0
 IsOldPut row = (row.number ≤ 1) × FitsStore 0 row.change
