@@ -1,5 +1,5 @@
 //! The changes of one commit, in normal form.
-ghost use Rattle.std.specs.Prelude.{◌≡◌, ◌↔◌, ◌+◌, ◌^◌, ◌<◌, [], ◌∷◌, ◌++◌, length, slice_index_or, IsTrue, OnOk, OnErr, IfOk};
+ghost use Rattle.std.specs.Prelude.{◌≡◌, ◌↔◌, ◌+◌, ◌^◌, ◌<◌, [], ◌∷◌, ◌++◌, length, slice_index_or, slice_get, Some, IsTrue, OnOk, OnErr, IfOk};
 ghost use Rattle.hse_rows.specs.declared.write.Write.{Write as a_write};
 ghost use Rattle.hse_rows.specs.writes.Change.{change_of, write_of, FitsLimits};
 ghost use Rattle.std.specs.List.Sorted.{IsStrictlySortedBy};
@@ -141,6 +141,14 @@ impl WriteSet {
         ensures normal { self.now ≡ normal_form self.now }
     {
         self.writes.len() as u64
+    }
+
+    /// The write at a place below `len`, lent. It takes no memory.
+    pub fn write(&self, place: u64) -> &Write
+        requires { place < length self.now }
+        ensures { slice_get self.now place ≡ Some result.now }
+    {
+        &self.writes[place as usize]
     }
 
     /// The change at a place below `len`, with its store. It takes no memory.
