@@ -26,7 +26,8 @@ use Rattle.wal.specs.Logged.{entry_of, logged, logged_all}
 use Rattle.wal.specs.Numbering.{free_from}
 use Rattle.wal.specs.Stores.{LacksStore}
 use Rattle.wal.specs.declared.commit.Commit.{Commit}
-use Rattle.back.specs.Events.{event_of, events_of, manifest_of}
+use Rattle.back.specs.Events.{event_of, events_of}
+use Rattle.recovery.specs.Machine.{manifest_of}
 use Rattle.back.proofs.NamedLemmas.{next_unnamed}
 use Rattle.back.specs.Steps.{MayEnter, has_room, last_number, logged as with_logged, metadata_with, rolled, with_commits, with_entry}
 use Rattle.back.proofs.CommitLemmas.{last_behind}

@@ -1,8 +1,6 @@
 -- Commits of the log as events of a history.
-use Rattle.std.specs.Prelude.{◌+◌, List, map}
+use Rattle.std.specs.Prelude.{List, map}
 use Rattle.hse_fields.specs.LogText.{Entry}
-use Rattle.hse_rows.specs.machine.ManifestRoom.{ManifestState}
-use Rattle.hse_rows.specs.machine.TakenRuns.{numbers_of}
 use Rattle.hse_rows.specs.states.History.{Event, commits}
 use Rattle.recovery.specs.Image.{Loaded}
 use Rattle.recovery.specs.Stored.{write_in}
@@ -12,11 +10,3 @@ event_of entry = commits (map write_in entry.changes)
 
 abbrev pub events_of : List Entry → List Event
 events_of entries = map event_of entries
-
--- the manifest of what is loaded, as the machine counts it
-abbrev pub manifest_of : Loaded → ManifestState
-manifest_of loaded = record {
-  sequence = loaded.sequence;
-  used = loaded.place + 1;
-  taken = numbers_of loaded.metadata.taken;
-}

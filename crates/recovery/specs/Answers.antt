@@ -3,6 +3,7 @@ use Rattle.std.specs.Prelude.{◌≡◌, ℕ, ◌+◌, ◌-◌, ◌^◌, ◌<◌
 use Rattle.std.specs.List.{AllByRecursion}
 use Rattle.hse_io.specs.Faults.{Rose}
 use Rattle.media_disk.specs.declared.device.Device.{Ghosts}
+use Rattle.device_layout.specs.Layouts.{IsGood}
 use Rattle.device_layout.specs.declared.layout.Layout.{Layout}
 use Rattle.manifest.specs.Metadata.{Metadata}
 use Rattle.manifest.specs.Views.{metadata_as}
@@ -89,6 +90,7 @@ pub record Finds (loaded : Loaded) (r : Recovered) : Type 0 where
 
 -- Its parts are those of its layout, whatever the device tells, and no number is above the greatest one.
 pub record HasParts (r : Recovered) : Type 0 where
+  pub good : IsGood r.layout
   pub manifest : r.manifest.layout ≡ r.layout
   pub region : r.log.region ≡ log_region r.layout
   pub small : r.number ≤ 2 ^ 62
