@@ -50,7 +50,7 @@ stores-written high number layer (write ∷ writes) up all =
     stores-written high number (rows_with layer (store_row write.store (row_numbered number write.change))) writes up.1
     (each-with (λ (row : StoreRow). row.store.0 ≤ high) layer (store_row write.store (row_numbered number write.change)) all up.0)
 
-higher : (low high : ℕ) → low ≤ high → (layers : List (List StoreRow)) → AreOfStores low layers → AreOfStores high layers
+pub higher : (low high : ℕ) → low ≤ high → (layers : List (List StoreRow)) → AreOfStores low layers → AreOfStores high layers
 higher low high up layers = each-weaker (λ (layer : List StoreRow) all. each-weaker (λ (row : StoreRow) less. omega (arith, less, up)) layer all) layers
 
 active-all : (high : ℕ) (layers : List (List StoreRow)) → AreOfStores high layers → AllByRecursion (λ (row : StoreRow). row.store.0 ≤ high) (active_of layers)

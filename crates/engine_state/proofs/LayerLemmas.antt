@@ -1,6 +1,7 @@
 -- The active layer with one write more.
-use Rattle.std.proofs.Common.{◌≡◌, refl, sym, ap, ◌∙◌, ℕ, zero, suc, ◌<◌, List, [], ◌∷◌, ◌++◌, length, take, slice_get, slice_index_or, Option, Some, None}
+use Rattle.std.proofs.Common.{◌≡◌, refl, sym, ap, ◌∙◌, ℕ, zero, suc, List, [], ◌∷◌, ◌++◌, take, slice_get, Option, Some, None}
 use Rattle.std.proofs.Math.Seq.{take-suc}
+use Rattle.std.proofs.lemmas.Option.{slice_get_within, get_or_from_slice_get}
 use Rattle.hse_rows.specs.declared.write.Write.{Write}
 use Rattle.ingest_tree.specs.declared.store_row.StoreRow.{StoreRow}
 use Rattle.ingest_tree.specs.Rows.{store_row, row_numbered, rows_with}
@@ -13,10 +14,12 @@ with_writes-push number layer (one ∷ writes) write =
     with_writes-push number (rows_with layer (store_row one.store (row_numbered number one.change))) writes write
 
 pub with_writes-more : (number : ℕ) (layer : List StoreRow) (writes : List Write) (place : ℕ) (write : Write)
-    → place < length writes → slice_index_or writes place write ≡ write
+    → slice_get writes place ≡ Some write
     → with_writes number layer (take (suc place) writes) ≡ rows_with (with_writes number layer (take place writes)) (store_row write.store (row_numbered number write.change))
-with_writes-more number layer writes place write less at =
-    ap (with_writes number layer) (take-suc writes place write less ∙ ap (λ (w : Write). take place writes ++ w ∷ []) at)
+with_writes-more number layer writes place write at =
+    ap (with_writes number layer)
+    (take-suc writes place write (slice_get_within writes place write at)
+    ∙ ap (λ (w : Write). take place writes ++ w ∷ []) (get_or_from_slice_get writes place write write at))
     ∙ with_writes-push number layer (take place writes) write
 
 pub active-is : (layers : List (List StoreRow)) (layer : List StoreRow) → Some layer ≡ slice_get layers 0 → layer ≡ active_of layers

@@ -9,3 +9,4 @@ pub mod NormalLemmas
 pub mod CommitTables
 pub mod TxnLemmas
 pub mod PlainLemmas
+pub mod LeaveLemmas

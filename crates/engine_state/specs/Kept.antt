@@ -10,6 +10,11 @@ use Rattle.wal.specs.Waits.{with_entry}
 use Rattle.engine_state.specs.declared.live.LiveTxn.{LiveTxn}
 use Rattle.engine_state.specs.declared.state.EngineState.{EngineState}
 
+-- begin orders rise, from this one on
+abbrev pub AreInOrder : ℕ → List LiveTxn → Type 0
+AreInOrder low [] = Unit {0}
+AreInOrder low (txn ∷ later) = (low ≤ txn.order) × AreInOrder (txn.order + 1) later
+
 -- the snapshot of the first of these, and else the last number
 abbrev pub least_of : ℕ → List LiveTxn → ℕ
 least_of number [] = number

@@ -1,6 +1,8 @@
 //! The end of a transaction without an event.
-ghost use Rattle.std.specs.Prelude.{◌≡◌, ◌==◌, [], not, OnErr, IfOk};
+ghost use Rattle.std.specs.Prelude.{◌≡◌, ◌==◌, [], not, length, OnErr, IfOk};
 ghost use Rattle.std.specs.List.{filter};
+ghost use Rattle.std.specs.List.Sorted.{IsBinarySearchResult, IsSearchInRange};
+ghost use Rattle.std.specs.Ordering.{nat_cmp};
 ghost use Rattle.hse_rows.specs.declared.row.Row.{Row as a_row};
 ghost use Rattle.hse_rows.specs.transactions.Moves as moves;
 ghost use Rattle.hse_rows.specs.transactions.Transaction.{Transaction, active, aborted, ended};
@@ -9,7 +11,7 @@ ghost use Rattle.hse_rows.specs.machine.Core.{Core, with_move};
 ghost use Rattle.hse_rows.specs.machine.CoreDone.{done};
 ghost use Rattle.hse_rows.specs.machine.Replies as answer;
 ghost use Rattle.transactions.specs.Txns.{with_state};
-ghost use Rattle.engine_state.specs.Kept.{least_of};
+ghost use Rattle.engine_state.specs.Kept.{AreInOrder, least_of};
 ghost use Rattle.engine_state.specs.Serves.{IsSound, Serves, IsTxnOf};
 ghost use Rattle.engine_state.specs.Says.{SaysEnded};
 ghost use Rattle.engine_state.specs.Steps.{Steps};
@@ -21,11 +23,22 @@ use key_locks::{locks_stand_after_ends, locks_stand_as_before};
 use transactions::{Txn, transactions_stand};
 use view::TxnState;
 
-/// The transaction of this begin order is live no more.
-pub(crate) fn leave(live: &mut Vec<LiveTxn>, order: u64)
-    ensures { live.new.items ≡ filter (λ txn. not (txn.order == order)) live.old.items }
+/// Where the live transaction of this begin order stands, or else where it would.
+fn place_of(live: &[LiveTxn], order: u64) -> Result<usize, usize>
+    ensures bound { IsSearchInRange result (length live.now) }
+    ensures position { IsBinarySearchResult (λ txn. nat_cmp txn.order order) live.now result }
 {
-    live.retain(|txn| txn.order != order);
+    live.binary_search_by(|txn| txn.order.cmp(&order))
+}
+
+/// The transaction of this begin order is live no more, where begin orders rise.
+pub(crate) fn leave(live: &mut Vec<LiveTxn>, order: u64)
+    ensures { AreInOrder 0 live.old.items
+        → live.new.items ≡ filter (λ txn. not (txn.order == order)) live.old.items }
+{
+    if let Ok(at) = place_of(live, order) {
+        live.remove(at);
+    }
 }
 
 /// The number from which on live transactions ask for commits: the snapshot of the first of them, and

@@ -4,13 +4,10 @@ ghost use Rattle.hse_rows.specs.writes.Change.{change_of};
 ghost use Rattle.view.specs.Commits.{active_of, with_writes};
 
 use hse_io::NoMemory;
-use hse_rows::{Change, ChangeRef, Key, Prefix, Row, Shared, Value, WriteSet};
+use hse_rows::{Change, ChangeRef, Key, LONGEST_PREFIX, Prefix, Row, Shared, Value, WriteSet};
 use ingest_tree::IngestTree;
 use std::alloc::Global;
 use view::View;
-
-/// The most bytes that a prefix has.
-const LONGEST_PREFIX: u8 = 32;
 
 /// A key of these bytes.
 fn key_of(alloc: Global, bytes: &[u8]) -> Result<Key, NoMemory>
@@ -36,7 +33,7 @@ fn value_of(alloc: Global, bytes: &[u8]) -> Result<Value, NoMemory>
 fn prefix_of(alloc: Global, bytes: &[u8]) -> Result<Prefix, NoMemory>
     ensures { IfOk result (λ prefix. prefix ≡ bytes.now) }
 {
-    match Prefix::new(alloc, bytes, LONGEST_PREFIX) {
+    match Prefix::new(alloc, bytes, LONGEST_PREFIX as u8) {
         Ok(prefix) => Ok(prefix),
         Err(_) => Err(NoMemory),
     }
@@ -53,7 +50,7 @@ pub(crate) fn change_with(alloc: Global, change: ChangeRef<'_>) -> Result<Change
     }
 }
 
-/// The layer with a row for each of these writes, beside the old one.
+/// The layer with a row for each of these writes, whose bytes it shares, beside the old one.
 fn layer_with(
     alloc: Global,
     layer: &IngestTree,
@@ -64,12 +61,12 @@ fn layer_with(
 {
     let mut tree = layer.share(alloc)?;
     for place in 0..writes.len() {
-        let (store, change) = writes.at(place);
+        let write = writes.write(place);
         let row = Row {
             number,
-            change: change_with(alloc, change)?,
+            change: write.change.share(alloc)?,
         };
-        tree = tree.with_row(alloc, store, row)?;
+        tree = tree.with_row(alloc, write.store, row)?;
     }
     Ok(tree)
 }

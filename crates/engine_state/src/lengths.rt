@@ -1,5 +1,5 @@
 //! The lengths of a write's bytes.
-ghost use Rattle.std.specs.Prelude.{◌≡◌, ◌-◌, min};
+ghost use Rattle.std.specs.Prelude.{◌≡◌};
 ghost use Rattle.hse_rows.specs.states.State.{Store as a_store};
 ghost use Rattle.hse_rows.specs.writes.Change.{change_of};
 ghost use Rattle.hse_rows.specs.machine.Sizes.{Sizes};
@@ -10,19 +10,6 @@ ghost use Rattle.engine_state.specs.Says.{Fronts};
 use crate::faults::WriteFault;
 use hse_rows::ChangeRef;
 use view::is_key;
-
-/// The most bytes that a value has on any device.
-const LONGEST_VALUE: u64 = 1_048_576;
-
-/// What a slot has beside a value.
-const BESIDE_VALUE: u64 = 64;
-
-/// The most bytes that a value has where slots are of this size.
-pub(crate) fn longest_value(slot_size: u64) -> u64
-    ensures { result ≡ min 1048576 (slot_size - 64) }
-{
-    LONGEST_VALUE.min(slot_size.saturating_sub(BESIDE_VALUE))
-}
 
 /// Why these bytes are no key.
 fn key_fault(key: &[u8]) -> Option<WriteFault>

@@ -13,12 +13,13 @@ ghost use Rattle.engine_state.specs.Plain.{plain_front, IsLoggedWrite};
 
 use crate::faults::WriteFault;
 use crate::layers::change_with;
-use crate::lengths::{change_fault, longest_value};
+use crate::lengths::change_fault;
 use crate::limits::GREATEST_NUMBER;
 use crate::state::EngineState;
 use hse_io::NoMemory;
 use hse_rows::{
     ChangeRef, Mode, Shared, StoreId, StoreName, WriteSet, conflicts_are_of_transactions,
+    longest_value,
 };
 use key_locks::locks_stand_after_moves;
 use std::alloc::Global;

@@ -17,6 +17,7 @@ use Rattle.wal.specs.Waits.{with_entry}
 use Rattle.engine_state.specs.declared.live.LiveTxn.{LiveTxn}
 use Rattle.engine_state.specs.Kept.{least_of}
 use Rattle.engine_state.specs.Serves.{AreBetween}
+use Rattle.engine_state.proofs.LeaveLemmas.{in-order}
 use Rattle.engine_state.proofs.LiveLemmas.{between-filter, between-higher}
 use Rattle.engine_state.proofs.SoundLemmas.{view-number}
 use Rattle.engine_state.proofs.EndLemmas.{pruned-locks, live-left}
@@ -55,7 +56,7 @@ returns-clause-logged g c m transaction sound s of going some =
     }) in
     let items = c.leave.new.live.items in
     let left : items ≡ filter (λ (l : LiveTxn). not (l.order == order)) state.live.items =
-    c.leave.ensures ∙ ap (λ n. filter (λ (l : LiveTxn). not (l.order == n)) mid.live.items) c.id-order.ensures
+    c.leave.ensures (in-order m sound mid.live.items (ap (λ l. l.items) logged.live ∙ s.live)) ∙ ap (λ n. filter (λ (l : LiveTxn). not (l.order == n)) mid.live.items) c.id-order.ensures
     ∙ ap (λ l. filter (λ (t : LiveTxn). not (t.order == order)) l.items) logged.live in
     let reach : AreBetween above (number_of after) items =
     subst (AreBetween above (number_of after)) (sym left)

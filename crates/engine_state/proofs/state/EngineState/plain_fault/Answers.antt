@@ -1,6 +1,6 @@
 use Rattle.std.proofs.Common.{◌≡◌, refl, sym, ap, ◌∙◌, subst, arith, ℕ, ◌-◌, false, None}
-use Rattle.std.specs.Prelude.{min}
 use Rattle.hse_rows.specs.writes.Change.{change_of}
+use Rattle.hse_rows.specs.writes.Lengths.{longest_value_in}
 use Rattle.hse_rows.specs.machine.Replies.{store_mode, broken, spent}
 use Rattle.hse_rows.specs.machine.Core.{number_of, longest_value, greatest_number}
 use Rattle.hse_rows.specs.machine.CoreRefusal.{is_tx, is_spent, change_refusal}
@@ -13,7 +13,7 @@ pub returns-then-number-ge-GREATEST_NUMBER-clause-front : goal.returns-then-numb
 returns-then-number-ge-GREATEST_NUMBER-clause-front g c m live s mode length later =
     let number : c.args.self.now.view.number ≡ number_of m = view-number g.R.RowSet c.args.self.now.view m s.view in
     let most : longest_value m.sizes ≡ c.longest_value-most.result =
-    ap (λ (n : ℕ). min 1048576 (n - 64)) (sym s.sizes.slot) ∙ sym c.longest_value-most.ensures in
+    ap longest_value_in (sym s.sizes.slot) ∙ sym c.longest_value-most.ensures in
     let fits : Fronts None (change_refusal m.sizes live (change_of c.args.change)) =
     subst (λ r. Fronts r (change_refusal m.sizes live (change_of c.args.change))) c.in_default.is (c.change_fault.ensures m.sizes live most length) in
     passed (is_tx live.mode) store_mode _ _ (ap is_tx (mode ∙ c.in-Plain.is))
@@ -26,7 +26,7 @@ pub returns-clause-front : goal.returns-clause-front
 returns-clause-front g c m live s mode length later =
     let number : c.args.self.now.view.number ≡ number_of m = view-number g.R.RowSet c.args.self.now.view m s.view in
     let most : longest_value m.sizes ≡ c.longest_value-most.result =
-    ap (λ (n : ℕ). min 1048576 (n - 64)) (sym s.sizes.slot) ∙ sym c.longest_value-most.ensures in
+    ap longest_value_in (sym s.sizes.slot) ∙ sym c.longest_value-most.ensures in
     let fits : Fronts None (change_refusal m.sizes live (change_of c.args.change)) =
     subst (λ r. Fronts r (change_refusal m.sizes live (change_of c.args.change))) c.in_default.is (c.change_fault.ensures m.sizes live most length) in
     passed (is_tx live.mode) store_mode _ _ (ap is_tx (mode ∙ c.in-Plain.is))

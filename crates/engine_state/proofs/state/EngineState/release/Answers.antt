@@ -8,6 +8,7 @@ use Rattle.engine_state.specs.declared.live.LiveTxn.{LiveTxn}
 use Rattle.engine_state.specs.Kept.{least_of}
 use Rattle.engine_state.specs.Serves.{AreBetween, handed, ServesAbove}
 use Rattle.engine_state.proofs.LiveLemmas.{between-filter}
+use Rattle.engine_state.proofs.LeaveLemmas.{in-order}
 use Rattle.engine_state.proofs.SoundLemmas.{view-number}
 use Rattle.engine_state.proofs.EndLemmas.{aborts-to, commits-to, pruned-locks, live-left, ended-serves}
 use Rattle.engine_state.proofs.state.EngineState.release.Goals as goal
@@ -19,7 +20,7 @@ returns-clause-aborts g c m transaction sound s of going =
     let then = with_transaction m.timeline order t in
     let to : moved m.timeline (moves.abort order) ≡ then = aborts-to m.timeline order transaction of.at in
     let left : c.leave.new.live.items ≡ filter (λ (l : LiveTxn). not (l.order == order)) c.args.self.now.live.items =
-    c.leave.ensures ∙ ap (λ n. filter (λ (l : LiveTxn). not (l.order == n)) c.args.self.now.live.items) c.id-order.ensures in
+    c.leave.ensures (in-order m sound c.args.self.now.live.items s.live) ∙ ap (λ n. filter (λ (l : LiveTxn). not (l.order == n)) c.args.self.now.live.items) c.id-order.ensures in
     let reach : AreBetween s.locks.above (number_of m.timeline) c.leave.new.live.items =
     subst (AreBetween s.locks.above (number_of m.timeline)) (sym left) (between-filter s.locks.above (number_of m.timeline) _ c.args.self.now.live.items s.locks.reach) in
     let released : StandFor c.release.new.self (moved m.timeline (moves.abort order)) s.locks.above =
@@ -48,7 +49,7 @@ returns-clause-commits g c m transaction sound s of going none =
     let then = with_transaction m.timeline order t in
     let to : moved m.timeline (moves.commit order) ≡ then = commits-to m.timeline order transaction of.at none in
     let left : c.leave.new.live.items ≡ filter (λ (l : LiveTxn). not (l.order == order)) c.args.self.now.live.items =
-    c.leave.ensures ∙ ap (λ n. filter (λ (l : LiveTxn). not (l.order == n)) c.args.self.now.live.items) c.id-order.ensures in
+    c.leave.ensures (in-order m sound c.args.self.now.live.items s.live) ∙ ap (λ n. filter (λ (l : LiveTxn). not (l.order == n)) c.args.self.now.live.items) c.id-order.ensures in
     let reach : AreBetween s.locks.above (number_of m.timeline) c.leave.new.live.items =
     subst (AreBetween s.locks.above (number_of m.timeline)) (sym left) (between-filter s.locks.above (number_of m.timeline) _ c.args.self.now.live.items s.locks.reach) in
     let released : StandFor c.release.new.self (moved m.timeline (moves.commit order)) s.locks.above =
