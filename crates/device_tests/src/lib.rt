@@ -2,6 +2,8 @@
 #![tactic(auto)]
 
 #[cfg(test)]
+mod cuts;
+#[cfg(test)]
 mod device;
 #[cfg(test)]
 mod filled;
@@ -14,11 +16,15 @@ mod loads;
 #[cfg(test)]
 mod names;
 #[cfg(test)]
+mod random;
+#[cfg(test)]
 mod recovers;
 #[cfg(test)]
 mod rolls;
 #[cfg(test)]
 mod spells;
+#[cfg(test)]
+mod super_cuts;
 #[cfg(test)]
 mod superblocks;
 #[cfg(test)]

@@ -9,17 +9,17 @@ use std::process::Abort;
 use std::test::Fail;
 
 /// The creation of number 2: the plain store `t`, with prefixes of 2 bytes.
-const CREATE_T: [u8; 13] = [2, 0, 0, 0, 0, 0, 0, 0, 2, 1, 0x74, 0, 2];
+pub(crate) const CREATE_T: [u8; 13] = [2, 0, 0, 0, 0, 0, 0, 0, 2, 1, 0x74, 0, 2];
 
 /// Commit 3 puts `v` at the key `k` of store 1, and `w` at the key `k` of store 2.
-const BOTH: [u8; 50] = [
+pub(crate) const BOTH: [u8; 50] = [
     0, 0, 0, 1, 0, 0, 0, 0, 0, 0, 0, 3, 0, 0, 0, 2, // one commit, number 3, two changes
     1, 0, 0, 0, 0, 0, 0, 0, 1, 0, 1, 0x6B, 0, 0, 0, 1, 0x76, // put, store 1
     1, 0, 0, 0, 0, 0, 0, 0, 2, 0, 1, 0x6B, 0, 0, 0, 1, 0x77, // put, store 2
 ];
 
 /// Commit 4 deletes the prefix `k` of store 1.
-const PDEL: [u8; 28] = [
+pub(crate) const PDEL: [u8; 28] = [
     0, 0, 0, 1, 0, 0, 0, 0, 0, 0, 0, 4, 0, 0, 0, 1, // one commit, number 4, one change
     3, 0, 0, 0, 0, 0, 0, 0, 1, 0, 1, 0x6B, // prefix delete
 ];
@@ -32,7 +32,12 @@ fn opened(rt: &impl Abort, alloc: Global, log: &[&[u8]]) -> Result<Recovered, Fa
 }
 
 /// Whether the key `k` of the store of this name has this value.
-fn has(alloc: Global, found: &Recovered, name: &[u8], want: Option<&[u8]>) -> Result<bool, Fail> {
+pub(crate) fn has(
+    alloc: Global,
+    found: &Recovered,
+    name: &[u8],
+    want: Option<&[u8]>,
+) -> Result<bool, Fail> {
     let name = StoreName::new(alloc, name)?;
     match found.view.get(&name, b"k") {
         Ok(value) => Ok(value == want),
