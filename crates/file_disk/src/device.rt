@@ -48,12 +48,17 @@ impl<R: Files<File = File> + Drop> Disk for FileDisk<R> {
     fn size(&mut self) -> Result<u64, Failed>
         ensures call { Called ⟦<FileDisk<R> as Device>⟧ self.old self.new result }
         ensures size { IfOk result (λ n. n ≡ self.new.extent) }
+        ensures stays { 1 ≤ self.old.extent → self.new.extent ≡ self.old.extent }
         ensures extent { OnErr result (self.new.extent ≡ self.old.extent) }
         ensures file { KeepsFile self.old self.new result }
     {
         self.begin()?;
         let told = self.opened().metadata();
         let length = self.count_fault_of(told)?.len();
+        // A file whose length another program changed is a device that failed.
+        if self.extent != 0 && self.extent != length {
+            return Err(self.count_fault());
+        }
         self.extent = length;
         Ok(length)
     }

@@ -19,10 +19,11 @@ pub struct Failed;
 /// Each call is `Called`: it counts on the clock, at the clock's last value it fails, a failure raises the count of
 /// faults, which stays over a success, and a crash leaves what it might have left before, or what it may leave now.
 pub trait Disk: Device {
-    /// The device's size in bytes.
+    /// The device's size in bytes. One that was told, and is not 0, stays.
     fn size(&mut self) -> Result<u64, Failed>
         ensures call { Called Self.Device self.old self.new result }
         ensures size { IfOk result (λ n. n ≡ Self.extent self.new) }
+        ensures stays { 1 ≤ Self.extent self.old → Self.extent self.new ≡ Self.extent self.old }
         ensures extent { OnErr result (Self.extent self.new ≡ Self.extent self.old) }
         ensures seen { Self.tells → Self.seen self.new ≡ Self.seen self.old }
         ensures pending { Self.tells → Self.pending self.new ≡ Self.pending self.old };
