@@ -103,7 +103,8 @@ impl<R: Files<File = File> + Drop> FileDisk<R> {
         Ok(())
     }
 
-    fn count_fault(&mut self) -> Failed
+    /// Counts a fault.
+    pub(crate) fn count_fault(&mut self) -> Failed
         ensures state { self.new ≡ record self.old { faults = next_count self.old.faults } }
         ensures later { self.old.faults ≤ self.new.faults }
     {
