@@ -159,7 +159,7 @@ lengths-taken table new old lengths txn name holder newest used more knows q pre
         let with_newest : ℕ → Lock = λ n. record { holder = None; newest = n } in
         ap with_holder (now ∙ ap (λ (l : Lock). l.holder) none) ∙ ap with_newest (newest q ∙ ap (λ (l : Lock). l.newest) none))
 
-covers-self : (b : List ℕ) → covers b b ≡ true
+pub covers-self : (b : List ℕ) → covers b b ≡ true
 covers-self b = (covers-is b b).1 (omega arith, take-length b)
   where
     take-length : (xs : List ℕ) → take (length xs) xs ≡ xs

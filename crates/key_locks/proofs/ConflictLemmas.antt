@@ -18,12 +18,13 @@ use Rattle.key_locks.specs.declared.lock_fault.LockFault.{LockFault}
 use Rattle.key_locks.specs.declared.lock_fault.LockFault.TheVariants.{Held, Since, NoMemory}
 use Rattle.key_locks.specs.declared.locks.KeyLocks.{KeyLocks}
 use Rattle.key_locks.specs.Answers.{IsUnheld, IsAnswer}
+use Rattle.key_locks.specs.Holders.{IsFirst}
 use Rattle.key_locks.specs.Locks.{writes_of, commits_of}
 use Rattle.key_locks.specs.Since.{has_commit, IsFirstSince}
 use Rattle.key_locks.specs.Standing.{active_writes, written, written_by, StandFor, Tells}
 use Rattle.key_locks.specs.laws.Laws.{LocksAnswerTheConflict}
 use Rattle.key_locks.proofs.RangeLemmas.{both, and-true}
-use Rattle.key_locks.proofs.FirstLemmas.{IsFirst, one_first, first-as, At, first_overlap-is, get-drop, begun_of, Passes, find-is}
+use Rattle.key_locks.proofs.FirstLemmas.{one_first, first-as, At, first_overlap-is, get-drop, begun_of, Passes, find-is}
 
 module _ (of_transactions : ConflictsAreOfTransactions) (locks : KeyLocks) (m : Timeline) (above : ℕ) (stand : StandFor locks m above)
     (rising : AreRising 0 m.base.number m.base.stores) (isolated : IsIsolated m) (sourced : IsSourced m)

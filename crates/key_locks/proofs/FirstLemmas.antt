@@ -9,13 +9,8 @@ use Rattle.hse_rows.specs.writes.Overlap.{overlaps_some}
 use Rattle.hse_rows.specs.states.History.{Event, commits, creates, drops}
 use Rattle.hse_rows.specs.transactions.Transaction.{Transaction}
 use Rattle.hse_rows.specs.transactions.Conflict.{first_overlap}
-use Rattle.key_locks.specs.Seen.{IsUpTo}
+use Rattle.key_locks.specs.Holders.{IsFirst}
 use Rattle.key_locks.specs.Standing.{written}
-
--- the least number of a kind, or none
-pub record IsFirst (kind : ℕ → Type 0) (first : Option ℕ) : Type 0 where
-  pub least : (n : ℕ) → kind n → IsUpTo first n
-  pub found : IfSome first kind
 
 pub one_first : (kind : ℕ → Type 0) (one other : Option ℕ) → IsFirst kind one → IsFirst kind other → one ≡ other
 one_first kind None None is also = refl

@@ -19,3 +19,4 @@ pub mod StandMoves
 pub mod OtherMoves
 pub mod FirstLemmas
 pub mod ConflictLemmas
+pub mod HolderLemmas

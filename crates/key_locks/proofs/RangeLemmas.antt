@@ -34,7 +34,7 @@ greater-is e = cc
 equal-is : Equal ≡ Less → ⊥
 equal-is e = cc
 
-lt_from_cmp : (a b : ℕ) → nat_cmp a b ≡ Less → a < b
+pub lt_from_cmp : (a b : ℕ) → nat_cmp a b ≡ Less → a < b
 lt_from_cmp a b less = by (cases_lt a b) (cases_lt b a)
   where
     by : (a < b) ⊎ (b ≤ a) → (b < a) ⊎ (a ≤ b) → a < b

@@ -7,6 +7,7 @@ pub mod Table
 pub mod Agrees
 pub mod Locks
 pub mod Answers
+pub mod Holders
 pub mod Walks
 pub mod Standing
 pub mod laws

@@ -2,7 +2,7 @@
 ghost use Rattle.key_locks.specs.laws.Laws.{CommitsStand, EmptyLocksStand, LockedChangesStand};
 ghost use Rattle.key_locks.specs.laws.Laws.{LocksAnswerTheConflict, OtherMovesStand};
 ghost use Rattle.key_locks.specs.laws.Laws.{PrunedLocksStand, ReleasesStand, UnchangedLocksStand};
-ghost use Rattle.key_locks.specs.laws.Laws.{UndoneChangesStand};
+ghost use Rattle.key_locks.specs.laws.Laws.{UndoneChangesStand, FirstHoldersTell};
 
 use hse_rows::{conflicts_are_of_transactions, normal_forms_overlap_the_same};
 
@@ -44,3 +44,9 @@ pub fn locks_stand_after_ends()
 {
     normal_forms_overlap_the_same();
 }
+
+/// Where the locks stand for a timeline, `first_holder` answers the first begun of the active
+/// transactions that have a write in the store.
+pub fn first_holders_tell()
+    ensures { FirstHoldersTell }
+{}

@@ -3,6 +3,7 @@
 
 mod ending;
 mod held;
+mod holders;
 mod laws;
 mod lock;
 mod lock_fault;
@@ -17,8 +18,8 @@ mod search;
 mod table;
 
 pub use laws::{
-    empty_locks_stand, locks_answer_the_conflict, locks_stand_after_ends, locks_stand_after_moves,
-    locks_stand_as_before,
+    empty_locks_stand, first_holders_tell, locks_answer_the_conflict, locks_stand_after_ends,
+    locks_stand_after_moves, locks_stand_as_before,
 };
 pub use lock_fault::LockFault;
 pub use locks::KeyLocks;

@@ -1,5 +1,7 @@
 //! The names that a transaction took, in order.
-ghost use Rattle.std.specs.Prelude.{◌≡◌, [], ◌∷◌, ◌++◌, length, OnOk, OnErr, MatchOption};
+ghost use Rattle.std.specs.Prelude.{◌≡◌, ◌==◌, [], ◌∷◌, ◌++◌, length, OnOk, OnErr, MatchOption};
+ghost use Rattle.std.specs.List.{list_any};
+ghost use Rattle.key_locks.specs.declared.name.Name.{Name as a_name};
 ghost use Rattle.key_locks.specs.Held.{has};
 
 use crate::name::Name;
@@ -60,6 +62,13 @@ impl Names {
         ensures { result ≡ has self.now name.now }
     {
         self.names.contains(name)
+    }
+
+    /// Whether one of them is of a store.
+    pub fn is_of(&self, store: u64) -> bool
+        ensures { result ≡ list_any (λ (name : a_name). name.store == store) self.now }
+    {
+        self.names.iter().any(|name| name.store == store)
     }
 
     /// The names, in order.

@@ -1,5 +1,6 @@
 -- Laws of locks that stand for a timeline, each the clause of a function of `src/laws.rt`.
-use Rattle.std.specs.Prelude.{◌≡◌, ◌≢◌, ℕ, ◌+◌, ◌≤◌, List, [], ◌++◌, ◌∷◌, length, map, max, Result}
+use Rattle.std.specs.Prelude.{◌≡◌, ◌≢◌, ℕ, ◌+◌, ◌≤◌, List, [], ◌++◌, ◌∷◌, length, map, max, Option, Result}
+use Rattle.std.specs.Option.{option_map}
 use Rattle.hse_rows.specs.declared.change.Change.{Change}
 use Rattle.hse_rows.specs.declared.store.Mode.{Mode}
 use Rattle.hse_rows.specs.declared.store.Mode.TheVariants.{Tx}
@@ -13,9 +14,11 @@ use Rattle.hse_rows.specs.transactions.Timeline.{Timeline, opened, number_of, sn
 use Rattle.hse_rows.specs.transactions.Conflict.{conflict_of}
 use Rattle.hse_rows.specs.transactions.Isolation.{IsIsolated}
 use Rattle.hse_rows.specs.transactions.Sources.{IsSourced}
+use Rattle.hse_rows.specs.machine.CoreRefusal.{first_in_store}
 use Rattle.key_locks.specs.declared.lock_fault.LockFault.{LockFault}
 use Rattle.key_locks.specs.declared.locks.KeyLocks.{KeyLocks}
 use Rattle.key_locks.specs.Answers.{IsAnswer}
+use Rattle.key_locks.specs.Holders.{IsFirstIn}
 use Rattle.key_locks.specs.Locks.{writes_of, commits_of, locked}
 use Rattle.key_locks.specs.Logged.{without_old}
 use Rattle.key_locks.specs.Standing.{StandFor, Tells, Leaves, with_locks, without_last, without_locks}
@@ -91,3 +94,10 @@ OtherMovesStand =
     × (IsIsolated m → (write : Write) → StandFor locks (moved m (write_out write)) above)
     × ((name : List ℕ) (mode : Mode) (prefix_length : ℕ) → StandFor locks (moved m (create name mode prefix_length)) above)
     × ((id : ℕ) → StandFor locks (moved m (remove id)) above)
+
+-- The first that has a lock in a store is the first begun of the active transactions that have a write in it.
+abbrev pub FirstHoldersTell : Type 0
+FirstHoldersTell =
+    (locks : KeyLocks) (m : Timeline) (above : ℕ) → StandFor locks m above → IsIsolated m
+    → (id : ℕ) (first : Option ℕ) → IsFirstIn locks id first
+    → option_map (λ (transaction : Transaction). transaction.begun) (first_in_store m.begun id) ≡ first
