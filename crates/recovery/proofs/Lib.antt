@@ -4,6 +4,7 @@ pub mod OneLoading
 pub mod NotBoth
 pub mod Each
 pub mod OneRefusal
+pub mod OneVersion
 mod FormatLemmas
 mod NewLemmas
 mod StopLemmas

@@ -9,7 +9,8 @@ use manifest::manifests_have_one_reading;
 
 /// No image is loaded in two ways: its layout, its manifest with its place, and its log are one. No
 /// image of which something is loaded is refused anywhere, or of another version. An image is
-/// refused in one part at one place. Each image of bytes is loaded, refused, or of another version.
+/// refused in one part at one place, or is of one other version, and not both. Each image of bytes is
+/// loaded, refused, or of another version.
 pub fn images_have_one_loading()
     ensures one { (image : List ℕ) (one other : Loaded)
         → IsLoaded image one → IsLoaded image other → one ≡ other }
@@ -20,6 +21,10 @@ pub fn images_have_one_loading()
     ensures refused { (image : List ℕ) (region other : a_region) (place at : ℕ)
         → IsNotFormed image region place → IsNotFormed image other at
         → (region ≡ other) × (place ≡ at) }
+    ensures version { (image : List ℕ) (one other : ℕ)
+        → IsOtherVersion image one → IsOtherVersion image other → one ≡ other }
+    ensures not_both { (image : List ℕ) (region : a_region) (place version : ℕ)
+        → IsNotFormed image region place → IsOtherVersion image version → ⊥ }
     ensures each { (image : List ℕ) → IsBytes image → HasOpening image }
 {
     manifests_have_one_reading();

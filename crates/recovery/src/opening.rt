@@ -1,6 +1,5 @@
 //! Reads a device again.
-ghost use Rattle.std.specs.Prelude.{◌≡◌, ◌≤◌, ◌+◌, ◌^◌, [], ℕ, List, Ok, IfOk, OnOk};
-ghost use Rattle.hse_io.specs.Faults.{next_count};
+ghost use Rattle.std.specs.Prelude.{◌≡◌, ◌≤◌, ◌+◌, ◌^◌, ℕ, List, Ok, IfOk};
 ghost use Rattle.media_disk.specs.Calls.{CallsMade};
 ghost use Rattle.device_layout.specs.Layouts.{IsGood, size_of_device};
 ghost use Rattle.manifest.specs.Loading.{IsLoad};
@@ -8,7 +7,7 @@ ghost use Rattle.manifest.specs.Views.{metadata_as};
 ghost use Rattle.manifest.specs.Metadata.{AreApart};
 ghost use Rattle.recovery.specs.Answers.{IsLogRead, IsQuiet, IsRecovery, HasParts, IsSoundLog, OpenReports};
 ghost use Rattle.recovery.specs.Image.{HasLayout};
-ghost use Rattle.recovery.specs.Keeps.{Keeps};
+ghost use Rattle.recovery.specs.Keeps.{IsBarrier, Keeps};
 
 use crate::logs::{FIRST, ReadLog, read_log};
 use crate::superblocks::read_layout;
@@ -68,16 +67,16 @@ fn recovered_of(
 /// log. On a formed image it gives exactly what is loaded of it. `NotFormed` has the part and the
 /// place of the first field that the format refuses, in that order, and `Version` comes where the
 /// superblock's text is right and its version is another one. `Device` comes only where the device
-/// failed. Nothing is written; after `Ok` nothing is pending.
+/// failed. Nothing is written; after `Ok` nothing is pending, and since the barrier's moment no crash
+/// leaves anything else.
 pub fn recover<D: Disk>(alloc: Global, disk: &mut D) -> Result<Recovered, OpenFault>
     ensures recovered { D.tells → IsRecovery (D.seen disk.old) result }
     ensures parts { IfOk result HasParts }
-    ensures moment { IfOk result (λ r. r.moment ≡ next_count (D.clock disk.old)) }
     ensures inside { IfOk result (λ r. size_of_device r.layout ≤ D.extent disk.new) }
     ensures calls { CallsMade D.Device disk.old disk.new }
     ensures reports { OpenReports D.Device disk.old disk.new result }
     ensures keeps { Keeps D.Device disk.old disk.new }
-    ensures durable { D.tells → OnOk result (D.pending disk.new ≡ []) }
+    ensures barrier { IfOk result (λ r. IsBarrier D.Device disk.old disk.new r.moment) }
 {
     let Ok(()) = disk.sync() else {
         return Err(OpenFault::Device);
