@@ -10,3 +10,8 @@ pub mod EnterLemmas
 pub mod TurnLemmas
 pub mod FoldLemmas
 pub mod PlanLemmas
+pub mod RunLemmas
+pub mod LiveLemmas
+pub mod BaseLemmas
+pub mod CountLemmas
+pub mod LoadedLemmas

@@ -3,3 +3,5 @@ pub mod Home
 pub mod Leaving
 pub mod Plans
 pub mod Events
+pub mod Bases
+pub mod laws

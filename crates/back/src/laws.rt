@@ -1,23 +1,25 @@
 //! Laws of what is loaded after a turn. These functions do nothing; their contracts are the laws.
-ghost use Rattle.std.specs.Prelude.{◌≡◌, ◌+◌, ◌≤◌, ℕ, List, length, false, true, Ok, Err};
+ghost use Rattle.std.specs.Prelude.{◌≡◌, ◌+◌, ◌^◌, ◌<◌, ◌≤◌, ℕ, List, length, false, true, Some, Ok, Err};
 ghost use Rattle.gate_log.specs.Places.{need_of};
 ghost use Rattle.hse_fields.specs.LogText.{Entry as a_commit};
 ghost use Rattle.hse_rows.specs.machine.ManifestRoom.{gained, goes_into_no_half, half_room, ManifestState};
 ghost use Rattle.hse_rows.specs.machine.TakenRuns.{numbers_of};
 ghost use Rattle.hse_rows.specs.states.History.{commits, creates, drops, folded, happened};
-ghost use Rattle.manifest.specs.Metadata.{LiveStore};
+ghost use Rattle.manifest.specs.MayCome.{MayBeBase, MayCome};
+ghost use Rattle.manifest.specs.Metadata.{LiveStore, Metadata};
 ghost use Rattle.manifest.specs.Text.{Entry as an_entry, create, drop, base_text, entry_text};
 ghost use Rattle.recovery.specs.Image.{IsLoaded, Loaded};
 ghost use Rattle.recovery.specs.Stored.{state_of};
 ghost use Rattle.manifest.specs.declared.manifest.Manifest.{Manifest as a_manifest};
 ghost use Rattle.wal.specs.Logged.{entry_of};
 ghost use Rattle.wal.specs.declared.commit.Commit.{Commit as a_wal_commit};
+ghost use Rattle.back.specs.Bases.{AreCounted, AreKnown};
 ghost use Rattle.back.specs.Events.{event_of, events_of};
 ghost use Rattle.recovery.specs.Machine.{manifest_of};
 ghost use Rattle.back.specs.Plans.{HasRoomFor, IsCounted, IsPlan};
 ghost use Rattle.back.specs.declared.plan.EntryPlan.{EntryPlan as a_plan};
 ghost use Rattle.back.specs.declared.plan.PlanFault.TheVariants.{ManifestFull};
-ghost use Rattle.back.specs.Steps.{last_number, metadata_with, with_commits, with_entry, MayEnter};
+ghost use Rattle.back.specs.Steps.{last_number, metadata_with, number_in, with_commits, with_entry, MayCommitAny, MayEnter};
 
 /// What is stored after a batch of commits is the state after them, as events behind what was
 /// stored before; and so after a creation and a drop. A commit that the log spells is the event of
@@ -71,4 +73,26 @@ pub fn plans_are_as_the_machine_counts()
         → IsPlan manifest entry after (Err (ManifestFull need room))
         → (goes_into_no_half manifest.layout.manifest state (need_of entry) (need_of after)
         ≡ true) × (need ≡ need_of after) × (room ≡ half_room manifest.layout.manifest) }
+{}
+
+/// What is loaded of a device may be a base. A creation or a drop that has the next number and
+/// keeps the manifest's rules may enter, also behind commits, since what it leaves may be a base
+/// too. Entry and base have fewer than 2^32 bytes. The live stores have known ids, and prefixes of
+/// at most 32 bytes.
+pub fn loaded_metadata_may_be_bases()
+    ensures base { (image : List ℕ) (loaded : Loaded) → IsLoaded image loaded
+        → AreCounted loaded.metadata.taken → MayBeBase loaded.layout.stores loaded.metadata }
+    ensures enters { (image : List ℕ) (loaded : Loaded) (commits : List a_commit)
+        (entry : an_entry) → IsLoaded image loaded → AreCounted loaded.metadata.taken
+        → MayCommitAny loaded commits
+        → number_in entry ≡ last_number (with_commits loaded commits) + 1
+        → MayCome loaded.layout.stores (Some loaded.metadata) entry
+        → MayEnter (with_commits loaded commits) entry }
+    ensures short_base { (image : List ℕ) (loaded : Loaded) (entry : an_entry)
+        → IsLoaded image loaded → MayCome loaded.layout.stores (Some loaded.metadata) entry
+        → length (base_text (metadata_with loaded.metadata entry)) < 2 ^ 32 }
+    ensures short { (most : ℕ) (before : Metadata) (entry : an_entry)
+        → MayCome most (Some before) entry → length (entry_text entry) < 2 ^ 32 }
+    ensures stores { (image : List ℕ) (loaded : Loaded) → IsLoaded image loaded
+        → AreKnown (last_number loaded) loaded.metadata.stores }
 {}

@@ -1,0 +1,2 @@
+-- Laws of what values say, for the crates above.
+pub mod Counted
