@@ -9,4 +9,5 @@ pub mod NormalLemmas
 pub mod CommitTables
 pub mod TxnLemmas
 pub mod PlainLemmas
+pub mod WriteLemmas
 pub mod LeaveLemmas

@@ -4,4 +4,5 @@ pub mod Serves
 pub mod Says
 pub mod Steps
 pub mod Plain
+pub mod Inside
 pub mod Turns

@@ -6,6 +6,7 @@ mod commit;
 mod cursors;
 mod ending;
 mod faults;
+mod laws;
 mod layers;
 mod lengths;
 mod limits;
@@ -16,8 +17,10 @@ mod plain;
 mod sizes;
 mod state;
 mod turns;
+mod write;
 
 pub use cursors::CursorPlace;
 pub use faults::{BeginFault, CommitFault, CursorsFull, WriteFault};
+pub use laws::transactions_are_remembered;
 pub use sizes::EngineSizes;
 pub use state::EngineState;
