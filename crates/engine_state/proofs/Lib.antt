@@ -10,4 +10,7 @@ pub mod CommitTables
 pub mod TxnLemmas
 pub mod PlainLemmas
 pub mod WriteLemmas
+pub mod StoreLemmas
+pub mod StoreTables
+pub mod EnterLemmas
 pub mod LeaveLemmas

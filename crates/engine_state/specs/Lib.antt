@@ -6,3 +6,4 @@ pub mod Steps
 pub mod Plain
 pub mod Inside
 pub mod Turns
+pub mod Stores

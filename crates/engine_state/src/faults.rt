@@ -78,6 +78,47 @@ pub enum CommitFault {
     NoMemory,
 }
 
+/// Why no store was created.
+#[derive(Clone, Copy, Debug, PartialEq, Eq, Error)]
+pub enum CreateFault {
+    /// A live store has the name.
+    #[error("a store has this name")]
+    StoreExists,
+    /// The prefix length is this one, above 32.
+    #[error("a prefix length of {0}")]
+    PrefixLength(u64),
+    /// A device call failed since the last opening.
+    #[error("the engine is broken")]
+    Broken,
+    /// So many stores are live as may be.
+    #[error("{0} stores are live")]
+    TooMany(u64),
+    /// No number is left for an event.
+    #[error("no number is left")]
+    Spent,
+    #[error("out of memory")]
+    NoMemory,
+}
+
+/// Why no store was dropped.
+#[derive(Clone, Copy, Debug, PartialEq, Eq, Error)]
+pub enum DropFault {
+    /// No store has the name.
+    #[error("no store has this name")]
+    NoStore,
+    /// A device call failed since the last opening.
+    #[error("the engine is broken")]
+    Broken,
+    /// The live transaction of this begin order, the first of these, has a write in the store.
+    #[error("held by transaction {0}")]
+    StoreHeld(u64),
+    /// No number is left for an event.
+    #[error("no number is left")]
+    Spent,
+    #[error("out of memory")]
+    NoMemory,
+}
+
 /// So many cursors are open as may be.
 #[derive(Clone, Copy, Debug, PartialEq, Eq, Error)]
 #[error("{0} cursors are open")]

@@ -16,11 +16,15 @@ mod opening;
 mod plain;
 mod sizes;
 mod state;
+mod store_event;
+mod stores;
 mod turns;
+mod views;
 mod write;
 
 pub use cursors::CursorPlace;
-pub use faults::{BeginFault, CommitFault, CursorsFull, WriteFault};
+pub use faults::{BeginFault, CommitFault, CreateFault, CursorsFull, DropFault, WriteFault};
 pub use laws::transactions_are_remembered;
 pub use sizes::EngineSizes;
 pub use state::EngineState;
+pub use store_event::StoreEvent;
