@@ -6,7 +6,7 @@ use Rattle.hse_rows.specs.declared.row_set.RowSet.{Ghosts}
 use Rattle.hse_rows.specs.writes.NormalForm.{normal_form}
 use Rattle.hse_rows.specs.writes.Charge.{charge_of}
 use Rattle.hse_rows.specs.states.State.{State}
-use Rattle.hse_rows.specs.states.History.{Event, commits, happened}
+use Rattle.hse_rows.specs.states.History.{commits, happened}
 use Rattle.hse_rows.specs.states.Rooted.{AreUpTo, AreRooted}
 use Rattle.hse_rows.specs.laws.Folding.{folded_push}
 use Rattle.hse_rows.specs.transactions.Moves as moves
@@ -31,9 +31,9 @@ use Rattle.wal.specs.Logged.{entry_with}
 use Rattle.wal.specs.Waits.{WaitingState, waiting_of, with_entry}
 use Rattle.engine_state.specs.declared.state.EngineState.{EngineState}
 use Rattle.engine_state.specs.declared.sizes.EngineSizes.{EngineSizes}
-use Rattle.engine_state.specs.Serves.{IsSound, live_of, handed, commits_above, entries_of, AreOfStores, LocksServe, ViewServes, ServesAbove, Serves}
+use Rattle.engine_state.specs.Serves.{IsSound, live_of, handed, commits_above, entries_of, AreOfStores, LocksServe, ViewServes, Serves}
 use Rattle.engine_state.proofs.LiveLemmas.{is_live}
-use Rattle.engine_state.proofs.LoggedLemmas.{numbered, above-push, waiting-push, charge-push, rooted-last}
+use Rattle.engine_state.proofs.LoggedLemmas.{above-push, waiting-push, charge-push, rooted-last}
 use Rattle.engine_state.proofs.SoundLemmas.{handed-low, handed-high, view-number}
 
 -- one commit more in a history

@@ -1,5 +1,5 @@
 -- The end of a transaction: its locks, the live ones, and what the engine stands for then.
-use Rattle.std.proofs.Common.{◌≡◌, refl, sym, ap, ◌∙◌, subst, ℕ, ◌+◌, ◌==◌, Bool, false, not, List, [], ◌∷◌, map, set, length, Some, arith}
+use Rattle.std.proofs.Common.{◌≡◌, sym, ap, ◌∙◌, subst, ℕ, ◌+◌, ◌==◌, false, not, List, [], map, set, Some, arith}
 use Rattle.std.specs.Prelude.{max}
 use Rattle.std.specs.List.{filter}
 use Rattle.std.proofs.lemmas.List.{length-set}
@@ -19,7 +19,7 @@ use Rattle.engine_state.specs.declared.live.LiveTxn.{LiveTxn}
 use Rattle.engine_state.specs.declared.state.EngineState.{EngineState}
 use Rattle.engine_state.specs.Kept.{least_of, IsSame}
 use Rattle.engine_state.specs.Serves.{IsSound, AreBetween, live_of, handed, LocksServe, ViewServes, ServesAbove, Serves}
-use Rattle.engine_state.proofs.LiveLemmas.{is_live, is_not, live-ended, kept-filter, between-filter, between-least}
+use Rattle.engine_state.proofs.LiveLemmas.{is_live, is_not, live-ended, kept-filter, between-least}
 use Rattle.engine_state.proofs.SoundLemmas.{placed}
 
 -- what moves make of an active transaction

@@ -1,9 +1,8 @@
 -- A creation or a drop happens.
-use Rattle.std.proofs.Common.{◌≡◌, ◌≤◌, ◌+◌, ◌-◌, refl, sym, ap, ◌∙◌, subst, arith, ℕ, zero, suc, List, [], ◌∷◌, ◌++◌, length, length-append, drop}
+use Rattle.std.proofs.Common.{◌≡◌, ◌≤◌, ◌+◌, ◌-◌, refl, sym, ap, ◌∙◌, subst, arith, ℕ, List, [], ◌∷◌, ◌++◌, length, length-append, drop}
 use Rattle.std.proofs.Math.Seq.{drop-length}
 use Rattle.hse_rows.specs.declared.row_set.RowSet.{Ghosts}
-use Rattle.hse_rows.specs.states.State.{State}
-use Rattle.hse_rows.specs.states.History.{Event, creates, drops, last_number, events_since}
+use Rattle.hse_rows.specs.states.History.{Event, creates, drops}
 use Rattle.hse_rows.specs.transactions.Moves.{Move}
 use Rattle.hse_rows.specs.transactions.Moves as moves
 use Rattle.hse_rows.specs.transactions.Timeline.{Timeline, with_event, moved, number_of}

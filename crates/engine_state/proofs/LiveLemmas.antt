@@ -1,8 +1,7 @@
 -- The live transactions as the engine keeps them.
-use Rattle.std.proofs.Common.{◌≡◌, refl, ◌∙◌, sym, ap, subst, arith, ℕ, zero, suc, ◌+◌, ◌<◌, ◌≤◌, ◌==◌, Bool, true, false, cond, not, List, [], ◌∷◌, ◌++◌, length, map, set, slice_get, Option, Some, None}
+use Rattle.std.proofs.Common.{◌≡◌, refl, ◌∙◌, sym, ap, arith, ℕ, zero, suc, ◌+◌, ◌<◌, ◌≤◌, ◌==◌, Bool, true, false, cond, not, List, [], ◌∷◌, ◌++◌, length, map, set, slice_get, Some, None}
 use Rattle.std.specs.List.{AllByRecursion, filter}
-use Rattle.sorted_lists.specs.laws.Lists.{each-filter, each-weaker, filter-all}
-use Rattle.sorted_lists.specs.laws.Parts.{filter-append}
+use Rattle.sorted_lists.specs.laws.Lists.{each-filter, filter-all}
 use Rattle.hse_rows.specs.transactions.Transaction.{Transaction, TransactionState, is_active, begins, ended}
 use Rattle.engine_state.specs.declared.live.LiveTxn.{LiveTxn}
 use Rattle.std.specs.Prelude.{max}

@@ -1,9 +1,9 @@
 -- One commit more: what the engine keeps of it, and what the machine's log and history have.
-use Rattle.std.proofs.Common.{◌≡◌, refl, ◌∙◌, sym, ap, subst, arith, ℕ, suc, ◌+◌, ◌-◌, ◌≤◌, List, [], ◌∷◌, ◌++◌, length, map, drop, length-append}
+use Rattle.std.proofs.Common.{◌≡◌, refl, ◌∙◌, ap, subst, arith, ℕ, ◌+◌, ◌-◌, ◌≤◌, List, [], ◌∷◌, ◌++◌, length, length-append}
 use Rattle.std.proofs.lemmas.List.{drop-append-le, length-drop, map-append}
 use Rattle.std.proofs.lemmas.Grind.{flat_map-append}
 use Rattle.std.proofs.lemmas.List.Sums.{sum_by-append}
-use Rattle.std.specs.List.{AllByRecursion, flat_map, sum_by}
+use Rattle.std.specs.List.{flat_map}
 use Rattle.hse_fields.specs.LogText as log
 use Rattle.hse_rows.specs.declared.write.Write.{Write}
 use Rattle.hse_rows.specs.writes.Charge.{charge_of}
@@ -13,7 +13,7 @@ use Rattle.hse_rows.specs.states.Rooted.{AreRooted, AreUpTo, writes_in}
 use Rattle.hse_rows.specs.machine.Log.{Numbered, charge_of_commits}
 use Rattle.hse_rows.specs.machine.Recorded.{commits_in}
 use Rattle.wal.specs.Logged.{entry_with}
-use Rattle.wal.specs.Waits.{WaitingState, waiting_of, with_entry}
+use Rattle.wal.specs.Waits.{waiting_of, with_entry}
 use Rattle.engine_state.specs.Serves.{entries_of}
 
 abbrev pub numbered : ℕ → List Write → Numbered

@@ -1,5 +1,5 @@
 -- Writes of which the normal form has none are none.
-use Rattle.std.proofs.Common.{◌≡◌, refl, sym, ap, ◌∙◌, arith, true≢false, ℕ, ◌+◌, Bool, true, false, cond, List, [], ◌∷◌, length}
+use Rattle.std.proofs.Common.{◌≡◌, refl, sym, ap, ◌∙◌, arith, true≢false, ◌+◌, Bool, true, false, cond, List, [], ◌∷◌, length}
 use Rattle.std.specs.List.{fold, list_any}
 use Rattle.std.specs.declared.cmp.Ordering.{Ordering}
 use Rattle.std.specs.Ordering.{is_lt}

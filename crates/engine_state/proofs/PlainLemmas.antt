@@ -1,16 +1,16 @@
 -- A write of a plain store, from its parts.
-use Rattle.std.proofs.Common.{◌≡◌, refl, sym, ap, ◌∙◌, subst, ℕ, ◌+◌, List, true≢false, Option, Some, None, Result, Ok, Err}
+use Rattle.std.proofs.Common.{◌≡◌, refl, sym, ap, ◌∙◌, subst, ℕ, List, Some, None, Result, Ok, Err}
 use Rattle.hse_rows.specs.declared.change.Change.{Change}
 use Rattle.hse_rows.specs.declared.row_set.RowSet.{Ghosts}
 use Rattle.hse_rows.specs.declared.store.Mode.{Mode}
 use Rattle.hse_rows.specs.declared.store.Mode.TheVariants.{Plain, Tx}
 use Rattle.hse_rows.specs.states.State.{Store, store_named}
 use Rattle.hse_rows.specs.transactions.Timeline.{HasStore, for_some}
-use Rattle.hse_rows.specs.machine.Replies.{Refusal, store_mode, broken, spent, no_store, ok}
+use Rattle.hse_rows.specs.machine.Replies.{store_mode, broken, spent, no_store, ok}
 use Rattle.hse_rows.specs.machine.Calls.{outside, write_by}
-use Rattle.hse_rows.specs.machine.Core.{Core, now, number_of, write_to}
+use Rattle.hse_rows.specs.machine.Core.{Core, now, write_to}
 use Rattle.hse_rows.specs.machine.CoreRefusal.{refusal, refuse, is_tx, is_spent, change_refusal, outside_refusal}
-use Rattle.hse_rows.specs.machine.CoreDone.{done, committing_write}
+use Rattle.hse_rows.specs.machine.CoreDone.{committing_write}
 use Rattle.engine_state.specs.declared.faults.WriteFault.{WriteFault}
 use Rattle.engine_state.specs.declared.state.EngineState.{EngineState}
 use Rattle.engine_state.specs.Serves.{Serves}

@@ -1,5 +1,5 @@
 -- Tables of refusals, line by line.
-use Rattle.std.proofs.Common.{◌≡◌, ◌<◌, ◌≤◌, refl, sym, ap, ◌∙◌, true≢false, ℕ, Bool, true, false, nat_le, nat_lt, Option, Some, None, arith}
+use Rattle.std.proofs.Common.{◌≡◌, ◌<◌, ◌≤◌, refl, sym, true≢false, ℕ, Bool, true, false, nat_le, nat_lt, Option, Some, arith}
 use Rattle.std.proofs.lemmas.Bool.Decides.{nat_tests}
 use Rattle.hse_rows.specs.machine.Replies.{Refusal}
 use Rattle.hse_rows.specs.machine.CoreRefusal.{refuse}

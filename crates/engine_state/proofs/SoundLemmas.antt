@@ -1,18 +1,16 @@
 -- What holds in every sound state of the machine.
-use Rattle.std.proofs.Common.{◌≡◌, refl, ◌∙◌, sym, ap, subst, arith, ℕ, zero, suc, ◌+◌, ◌-◌, ◌≤◌, ◌==◌, Bool, true, false, cond, not, List, [], ◌∷◌, ◌++◌, length, map, slice_get, Option, Some, None}
+use Rattle.std.proofs.Common.{◌≡◌, refl, ◌∙◌, sym, ap, arith, ℕ, zero, suc, ◌≤◌, ◌==◌, Bool, true, false, cond, List, [], ◌∷◌, map, slice_get, Some, None}
 use Rattle.std.specs.List.{find}
 use Rattle.std.specs.Option.{option_map}
 use Rattle.hse_rows.specs.declared.row.Row.{Row}
 use Rattle.hse_rows.specs.declared.row_set.RowSet.{Ghosts}
 use Rattle.hse_rows.specs.writes.NormalForm.{same}
 use Rattle.hse_rows.specs.states.State.{Store, State, store_named, store_of}
-use Rattle.hse_rows.specs.states.History.{last_number}
-use Rattle.hse_rows.specs.transactions.Transaction.{Transaction}
-use Rattle.hse_rows.specs.transactions.Timeline.{Timeline, HasStore}
+use Rattle.hse_rows.specs.transactions.Timeline.{HasStore}
 use Rattle.hse_rows.specs.machine.Turn.{Turn, home, taken, ran}
 use Rattle.hse_rows.specs.machine.Sizes.{Sizes}
 use Rattle.hse_rows.specs.machine.Limits.{TurnFits}
-use Rattle.hse_rows.specs.machine.Core.{Core, now, number_of}
+use Rattle.hse_rows.specs.machine.Core.{Core, number_of}
 use Rattle.hse_rows.specs.laws.Folding.{folded-number}
 use Rattle.ingest_tree.specs.declared.store_row.StoreRow.{StoreRow}
 use Rattle.view.specs.declared.view_store.ViewStore.{ViewStore}

@@ -1,20 +1,20 @@
 -- Views with a store more, and with a store less.
-use Rattle.std.proofs.Common.{◌≡◌, ◌≤◌, ◌<◌, ◌+◌, ◌==◌, ◌||◌, ◌&&◌, refl, sym, ap, ◌∙◌, subst, arith, ℕ, zero, suc, Bool, true, false, cond, not, List, [], ◌∷◌, ◌++◌, append_assoc, length, map, drop, slice_get, Option, Some, None}
+use Rattle.std.proofs.Common.{◌≡◌, ◌≤◌, ◌<◌, ◌+◌, ◌==◌, ◌||◌, ◌&&◌, refl, sym, ap, ◌∙◌, subst, arith, ℕ, zero, suc, Bool, true, false, cond, not, List, [], ◌∷◌, ◌++◌, append_assoc, length, map, drop, slice_get, Some, None}
 use Rattle.std.proofs.lemmas.Bool.Decides.{nat_tests}
 use Rattle.std.proofs.Math.ListN.{drop_of_length-le}
 use Rattle.std.proofs.lemmas.Grind.{flat_map-append}
 use Rattle.std.proofs.lemmas.Option.{same_Some}
-use Rattle.std.specs.List.{AllByRecursion, filter, find, list_any}
+use Rattle.std.specs.List.{AllByRecursion, find, list_any}
 use Rattle.sorted_lists.specs.laws.Lists.{each-weaker, each-filter, each-last, filter-all, filter-none}
 use Rattle.hse_rows.specs.declared.row.Row.{Row}
 use Rattle.hse_rows.specs.declared.row_set.RowSet.{Ghosts}
 use Rattle.hse_rows.specs.declared.store.Mode.{Mode}
 use Rattle.hse_rows.specs.writes.NormalForm.{same}
-use Rattle.hse_rows.specs.states.State.{Store, State, IsState, AreRising}
+use Rattle.hse_rows.specs.states.State.{State, IsState, AreRising}
 use Rattle.hse_rows.specs.states.History.{creates, drops, happened}
 use Rattle.hse_rows.specs.laws.Folding.{folded_push}
 use Rattle.hse_rows.specs.transactions.Moves as moves
-use Rattle.hse_rows.specs.machine.Core.{Core, now, number_of, with_move}
+use Rattle.hse_rows.specs.machine.Core.{Core, with_move}
 use Rattle.row_laws.specs.Sources.{all_rows, AreLayersOver}
 use Rattle.ingest_tree.specs.declared.store_row.StoreRow.{StoreRow}
 use Rattle.ingest_tree.specs.Rows.{rows_in}
@@ -24,7 +24,7 @@ use Rattle.view.specs.declared.view_store.ViewStore.{ViewStore}
 use Rattle.view.specs.Views.{ViewState}
 use Rattle.view.specs.Routed.{tree_rows, IsRouted}
 use Rattle.view.specs.Means.{layer_rows, AreApart, set_rows, store_in, state_of, IsView}
-use Rattle.view.specs.Stores.{with_store, without_store, IsCreated}
+use Rattle.view.specs.Stores.{without_store, IsCreated}
 use Rattle.view.specs.Laws.{StoresComeAndGo}
 use Rattle.engine_state.specs.Serves.{IsSound, AreOfStores, ViewServes}
 use Rattle.engine_state.specs.Stores.{but, new_in, with_new}

@@ -1,5 +1,5 @@
 -- A transaction after its commit.
-use Rattle.std.proofs.Common.{◌≡◌, ◌≢◌, refl, sym, ap, ◌∙◌, subst, arith, ℕ, ◌+◌, ◌≤◌, List, [], ◌∷◌, ◌++◌, set, slice_get, Option, Some, Result, Ok, Err, IfOk}
+use Rattle.std.proofs.Common.{◌≡◌, ◌≢◌, refl, sym, ap, ◌∙◌, subst, ℕ, ◌+◌, ◌≤◌, List, [], ◌∷◌, ◌++◌, set, Result, Ok, Err, IfOk}
 use Rattle.hse_rows.specs.declared.row.Row.{Row}
 use Rattle.hse_rows.specs.declared.row_set.RowSet.{Ghosts}
 use Rattle.hse_rows.specs.declared.write.Write.{Write}
@@ -7,14 +7,12 @@ use Rattle.hse_rows.specs.writes.NormalForm.{normal_form}
 use Rattle.hse_rows.specs.states.State.{State}
 use Rattle.hse_rows.specs.states.History.{Event, commits, last_number}
 use Rattle.hse_rows.specs.laws.Folding.{fold-stays}
-use Rattle.hse_rows.specs.transactions.Moves as moves
 use Rattle.hse_rows.specs.transactions.Transaction as machine
 use Rattle.hse_rows.specs.transactions.Transaction.{Transaction, TransactionState, active, committed, ended}
-use Rattle.hse_rows.specs.transactions.Timeline.{Timeline, transaction_of, with_transaction, commit_number, number_of}
+use Rattle.hse_rows.specs.transactions.Timeline.{Timeline, with_transaction, commit_number, number_of}
 use Rattle.hse_rows.specs.machine.Calls as call
 use Rattle.hse_rows.specs.machine.Core.{Core}
-use Rattle.hse_rows.specs.machine.Replies.{Answer, accepted, ok}
-use Rattle.hse_rows.specs.machine.CoreReply.{reply}
+use Rattle.hse_rows.specs.machine.Replies.{Answer, ok}
 use Rattle.hse_rows.specs.machine.CoreDone.{done}
 use Rattle.view.specs.declared.get_fault.TxnState.TheVariants as txn
 use Rattle.transactions.specs.Txns.{TxnKept, with_state}
@@ -23,10 +21,10 @@ use Rattle.engine_state.specs.declared.faults.CommitFault.{CommitFault}
 use Rattle.engine_state.specs.declared.state.EngineState.{EngineState}
 use Rattle.engine_state.specs.Serves.{IsSound, IsTxnOf}
 use Rattle.engine_state.specs.Says.{SaysCommit}
-use Rattle.engine_state.specs.Steps.{IsDone, Steps}
+use Rattle.engine_state.specs.Steps.{Steps}
 use Rattle.engine_state.proofs.LiveLemmas.{get-set}
 use Rattle.engine_state.proofs.EndLemmas.{commits-to}
-use Rattle.engine_state.proofs.CommitLemmas.{with_commit, commit-to, done-commit}
+use Rattle.engine_state.proofs.CommitLemmas.{with_commit, done-commit}
 use Rattle.engine_state.proofs.CommitTables.{commit-reply, number-some, done-none}
 
 -- a transaction that takes writes is active

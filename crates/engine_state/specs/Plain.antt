@@ -1,5 +1,5 @@
 -- A write outside of transactions, in two parts of the table of its refusals.
-use Rattle.std.specs.Prelude.{◌≡◌, ℕ, ◌+◌, List, [], ◌∷◌, Option, None, Result, Ok, Err}
+use Rattle.std.specs.Prelude.{◌≡◌, ℕ, ◌+◌, [], ◌∷◌, Option, None, Result, Ok, Err}
 use Rattle.hse_rows.specs.declared.row_set.RowSet.{Ghosts}
 use Rattle.hse_rows.specs.declared.store.Mode.TheVariants.{Plain}
 use Rattle.hse_rows.specs.declared.change.Change.{Change}

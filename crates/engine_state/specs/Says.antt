@@ -1,6 +1,6 @@
 -- Which refusal of the machine each fault is.
 use Rattle.std.specs.Prelude.{◌≡◌, ℕ, Option, Some, None}
-use Rattle.hse_rows.specs.machine.Replies.{by_commit, by_abort, Refusal, ended_by, store_exists, no_store, store_mode, key_length, value_length, prefix_length, broken, too_many, spent, txn_size, log_full, canceled_held, canceled_since}
+use Rattle.hse_rows.specs.machine.Replies.{by_commit, by_abort, Refusal, ended_by, no_store, store_mode, key_length, value_length, prefix_length, broken, too_many, spent, txn_size, log_full, canceled_held, canceled_since}
 use Rattle.view.specs.declared.get_fault.TxnState.{TxnState}
 use Rattle.view.specs.declared.get_fault.TxnState.TheVariants as txn
 use Rattle.engine_state.specs.declared.faults.BeginFault.{BeginFault}

@@ -22,7 +22,7 @@ use Rattle.view.specs.Means.{state_of}
 use Rattle.transactions.specs.Txns.{TxnKept}
 use Rattle.transactions.specs.Stands.{StandsFor}
 use Rattle.wal.specs.Logged.{entry_with}
-use Rattle.wal.specs.Waits.{WaitingState, waiting_of}
+use Rattle.wal.specs.Waits.{waiting_of}
 use Rattle.engine_state.specs.declared.live.LiveTxn.{LiveTxn}
 use Rattle.engine_state.specs.declared.sizes.EngineSizes.{EngineSizes}
 use Rattle.engine_state.specs.declared.state.EngineState.{EngineState}

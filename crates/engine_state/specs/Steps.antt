@@ -1,5 +1,5 @@
 -- A call of the engine is a step of the machine.
-use Rattle.std.specs.Prelude.{◌≡◌, ℕ, List, Option, None, Result, Ok, Err}
+use Rattle.std.specs.Prelude.{◌≡◌, ℕ, Option, None, Result, Ok, Err}
 use Rattle.hse_rows.specs.declared.row_set.RowSet.{Ghosts}
 use Rattle.hse_rows.specs.machine.Replies.{Refusal, Answer}
 use Rattle.hse_rows.specs.machine.Calls.{Call}

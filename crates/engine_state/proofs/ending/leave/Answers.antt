@@ -1,4 +1,4 @@
-use Rattle.std.proofs.Common.{◌∙◌, ℕ}
+use Rattle.std.proofs.Common.{◌∙◌}
 use Rattle.engine_state.proofs.LeaveLemmas.{removed, absent, equal-is}
 use Rattle.engine_state.proofs.ending.leave.Goals as goal
 

@@ -1,4 +1,4 @@
-use Rattle.std.proofs.Common.{◌≡◌, sym, ap, ◌∙◌, length, take, ◌+◌, suc, arith}
+use Rattle.std.proofs.Common.{◌≡◌, sym, ap, ◌∙◌, take, ◌+◌, suc, arith}
 use Rattle.std.proofs.lemmas.List.{take_all}
 use Rattle.ingest_tree.specs.Rows.{store_row, row_numbered, rows_with}
 use Rattle.view.specs.Commits.{with_writes}

@@ -1,8 +1,7 @@
-use Rattle.std.proofs.Common.{◌≡◌, ℕ, ◌+◌, ◌<◌, ◌||◌, nat_le, length, length-append, map, slice_get, Option, Some, None, List, [], ◌∷◌, ◌++◌, refl, sym, ap, ◌∙◌, subst, arith}
+use Rattle.std.proofs.Common.{◌≡◌, ℕ, ◌+◌, ◌<◌, ◌||◌, nat_le, length, length-append, map, slice_get, Some, List, [], ◌∷◌, ◌++◌, refl, sym, ap, ◌∙◌, subst, arith}
 use Rattle.std.proofs.lemmas.List.{length-map}
 use Rattle.hse_rows.specs.states.History.{fold}
 use Rattle.hse_rows.specs.transactions.Transaction as machine
-use Rattle.hse_rows.specs.machine.Calls as call
 use Rattle.hse_rows.specs.machine.Replies as answer
 use Rattle.hse_rows.specs.machine.Core.{number_of, live, most_transactions, greatest_number}
 use Rattle.hse_rows.specs.laws.Folding.{fold-last}

@@ -1,4 +1,4 @@
-use Rattle.std.proofs.Common.{◌≡◌, sym, ◌∙◌}
+use Rattle.std.proofs.Common.{sym, ◌∙◌}
 use Rattle.engine_state.proofs.TxnLemmas.{is-going, committed-txn}
 use Rattle.engine_state.proofs.state.EngineState.commit.Goals as goal
 

@@ -1,11 +1,11 @@
-use Rattle.std.proofs.Common.{◌≡◌, ◌≢◌, refl, sym, ap, ◌∙◌, subst, arith, ℕ, ◌+◌, List, [], length, nat_lt, Option, Some}
+use Rattle.std.proofs.Common.{◌≡◌, ◌≢◌, refl, sym, ap, ◌∙◌, subst, arith, ℕ, ◌+◌, List, [], length, Option, Some}
 use Rattle.hse_rows.specs.declared.write.Write.{Write}
 use Rattle.hse_rows.specs.writes.NormalForm.{normal_form}
 use Rattle.hse_rows.specs.writes.Charge.{charge_of}
 use Rattle.hse_rows.specs.transactions.Transaction.{Transaction}
 use Rattle.hse_rows.specs.transactions.Timeline.{commit_number}
 use Rattle.hse_rows.specs.machine.Replies.{Refusal, broken, spent, log_full}
-use Rattle.hse_rows.specs.machine.Core.{Core, number_of, left_room, greatest_number}
+use Rattle.hse_rows.specs.machine.Core.{number_of, left_room, greatest_number}
 use Rattle.hse_rows.specs.machine.CoreRefusal.{commit_refusal, is_spent}
 use Rattle.engine_state.specs.Serves.{Serves}
 use Rattle.engine_state.proofs.NormalLemmas.{none-left, nothing-left}

@@ -1,5 +1,5 @@
-use Rattle.std.proofs.Common.{◌≡◌, refl, sym, ap, ◌∙◌, subst, ℕ, ◌-◌, Bool, true, false, not, Some, None}
-use Rattle.std.specs.Prelude.{min, is_some}
+use Rattle.std.proofs.Common.{◌≡◌, refl, sym, ap, ◌∙◌, subst, true, not, Some, None}
+use Rattle.std.specs.Prelude.{is_some}
 use Rattle.hse_rows.specs.declared.store.Mode.{Mode}
 use Rattle.hse_rows.specs.writes.Change.{change_of}
 use Rattle.hse_rows.specs.writes.Lengths.{longest_value_in}

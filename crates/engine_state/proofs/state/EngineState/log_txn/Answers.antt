@@ -1,4 +1,4 @@
-use Rattle.std.proofs.Common.{◌≡◌, refl, sym, ap, ◌∙◌, subst, arith, ℕ, ◌+◌, not, ◌==◌, List, [], ◌∷◌, ◌++◌, map, set, length, length-append}
+use Rattle.std.proofs.Common.{◌≡◌, refl, sym, ap, ◌∙◌, subst, arith, ℕ, ◌+◌, not, ◌==◌, List, [], ◌∷◌, ◌++◌, map, set, length-append}
 use Rattle.std.specs.List.{filter}
 use Rattle.std.proofs.lemmas.List.{length-set}
 use Rattle.hse_rows.specs.declared.write.Write.{Write}

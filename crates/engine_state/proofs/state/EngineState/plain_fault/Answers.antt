@@ -1,4 +1,4 @@
-use Rattle.std.proofs.Common.{◌≡◌, refl, sym, ap, ◌∙◌, subst, arith, ℕ, ◌-◌, false, None}
+use Rattle.std.proofs.Common.{◌≡◌, refl, sym, ap, ◌∙◌, subst, arith, None}
 use Rattle.hse_rows.specs.writes.Change.{change_of}
 use Rattle.hse_rows.specs.writes.Lengths.{longest_value_in}
 use Rattle.hse_rows.specs.machine.Replies.{store_mode, broken, spent}

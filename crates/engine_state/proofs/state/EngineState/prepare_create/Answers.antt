@@ -1,4 +1,4 @@
-use Rattle.std.proofs.Common.{◌≡◌, sym, ap, ◌∙◌, subst, arith, ℕ, ◌+◌, None, Some}
+use Rattle.std.proofs.Common.{◌≡◌, sym, ap, ◌∙◌, subst, arith, ℕ, ◌+◌}
 use Rattle.hse_rows.specs.transactions.Moves as moves
 use Rattle.hse_rows.specs.machine.Core.{number_of, with_move}
 use Rattle.engine_state.specs.Serves.{ViewServes}

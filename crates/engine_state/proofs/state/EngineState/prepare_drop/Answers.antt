@@ -1,4 +1,4 @@
-use Rattle.std.proofs.Common.{◌≡◌, refl, sym, ap, ◌∙◌, subst, arith, ℕ, ◌+◌, Option, None, Some}
+use Rattle.std.proofs.Common.{◌≡◌, refl, sym, ap, ◌∙◌, subst, arith, ◌+◌, Option, Some}
 use Rattle.std.specs.Option.{option_map}
 use Rattle.hse_rows.specs.states.State.{Store, store_named}
 use Rattle.hse_rows.specs.transactions.Moves as moves

@@ -1,4 +1,4 @@
-use Rattle.std.proofs.Common.{◌≡◌, refl, sym, ap, ◌∙◌, subst, false, not, ◌==◌}
+use Rattle.std.proofs.Common.{◌≡◌, refl, sym, ap, ◌∙◌, subst, not, ◌==◌}
 use Rattle.std.specs.List.{filter}
 use Rattle.hse_rows.specs.transactions.Moves as moves
 use Rattle.hse_rows.specs.transactions.Transaction.{aborted, committed, ended}
@@ -6,7 +6,7 @@ use Rattle.hse_rows.specs.transactions.Timeline.{Timeline, with_transaction, mov
 use Rattle.key_locks.specs.Standing.{StandFor, without_locks}
 use Rattle.engine_state.specs.declared.live.LiveTxn.{LiveTxn}
 use Rattle.engine_state.specs.Kept.{least_of}
-use Rattle.engine_state.specs.Serves.{AreBetween, handed, ServesAbove}
+use Rattle.engine_state.specs.Serves.{AreBetween}
 use Rattle.engine_state.proofs.LiveLemmas.{between-filter}
 use Rattle.engine_state.proofs.LeaveLemmas.{in-order}
 use Rattle.engine_state.proofs.SoundLemmas.{view-number}

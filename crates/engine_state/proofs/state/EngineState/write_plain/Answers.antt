@@ -1,4 +1,4 @@
-use Rattle.std.proofs.Common.{◌≡◌, refl, sym, ap, ◌∙◌, subst, Option, Some, None}
+use Rattle.std.proofs.Common.{◌≡◌, refl, sym, ap, ◌∙◌, subst, Some, None}
 use Rattle.std.specs.Option.{option_map}
 use Rattle.hse_rows.specs.states.State.{Store, store_named}
 use Rattle.hse_rows.specs.writes.Change.{change_of}
