@@ -48,8 +48,9 @@ impl<R: Shared> EngineState<R> {
 
     /// A device call failed: the engine is broken until it is opened anew. It takes no memory.
     pub fn break_down(&mut self)
-        ensures { (m : Core) (handed later : ℕ) → ServesAbove R.RowSet self.old m handed
+        ensures serves { (m : Core) (handed later : ℕ) → ServesAbove R.RowSet self.old m handed
             → ServesAbove R.RowSet self.new (record m { is_broken = true }) later }
+        ensures broken { self.new.is_broken ≡ true }
     {
         self.is_broken = true;
     }
