@@ -1,0 +1,15 @@
+mod EndLemmas
+mod FormLemmas
+mod HistoryLemmas
+mod InsideLemmas
+mod LeavingLemmas
+mod OpeningLemmas
+mod ReopenLemmas
+mod RunLemmas
+mod ServesLemmas
+mod SessionLemmas
+mod StateLemmas
+mod StoreLemmas
+mod SyncLemmas
+mod TurnLemmas
+mod WritableLemmas

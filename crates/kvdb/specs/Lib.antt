@@ -1,0 +1,16 @@
+pub mod Found
+pub mod Growth
+pub mod Pending
+pub mod Sides
+pub mod Serves
+pub mod Room
+pub mod Turns
+pub mod Says
+pub mod Steps
+pub mod Taking
+pub mod Ending
+pub mod Figures
+pub mod Leaving
+pub mod Opening
+pub mod Reopening
+pub mod laws

@@ -1,0 +1,23 @@
+//! The engine: its device side and its state in memory, in steps.
+#![tactic(auto)]
+
+mod ending;
+mod engine;
+mod figures;
+mod laws;
+mod leaving;
+mod opening;
+mod reopening;
+mod running;
+mod sessions;
+mod side;
+mod taking;
+mod turn;
+
+pub use engine::Kvdb;
+pub use figures::Info;
+pub use laws::transactions_are_remembered;
+pub use leaving::{CloseFault, Closed};
+pub use reopening::ReopenFault;
+pub use side::TurnKind;
+pub use turn::{Broken, Ran, Turn, TurnFault, TurnWish};
