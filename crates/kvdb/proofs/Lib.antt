@@ -3,6 +3,7 @@ mod FormLemmas
 mod HistoryLemmas
 mod InsideLemmas
 mod LeavingLemmas
+mod ListingLemmas
 mod OpeningLemmas
 mod ReopenLemmas
 mod RunLemmas

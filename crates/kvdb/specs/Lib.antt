@@ -10,6 +10,7 @@ pub mod Steps
 pub mod Taking
 pub mod Ending
 pub mod Figures
+pub mod Listing
 pub mod Leaving
 pub mod Opening
 pub mod Reopening
