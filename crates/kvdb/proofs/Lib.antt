@@ -4,6 +4,7 @@ mod HistoryLemmas
 mod InsideLemmas
 mod LeavingLemmas
 mod ListingLemmas
+mod NewLemmas
 mod OpeningLemmas
 mod ReopenLemmas
 mod RunLemmas

@@ -1,6 +1,5 @@
 -- What stands when an engine is opened.
 use Rattle.std.specs.List.{All, AllByRecursion}
-use Rattle.std.specs.Prelude.{Option, IfSome}
 use Rattle.std.proofs.Common.{◌≡◌, ℕ, Some, Ok, Err, zero, suc, ◌+◌, ◌-◌, ◌<◌, ◌≤◌, List, [], ◌∷◌, ◌++◌, map, take, refl, sym, ◌∙◌, ap, subst, arith}
 use Rattle.std.proofs.lemmas.List.{append-nil}
 use Rattle.std.proofs.lemmas.List.Elements.{recursion_from_All}
@@ -39,7 +38,10 @@ use Rattle.recovery.specs.Keeps.{IsBarrier, Keeps}
 use Rattle.recovery.specs.declared.fault.OpenFault.{OpenFault}
 use Rattle.recovery.specs.declared.fault.OpenFault.TheVariants.{NotFormed, Version, Device, NoMemory}
 use Rattle.media_disk.specs.Calls.{CallsMade}
-use Rattle.kvdb.specs.Opening.{LeavesDevice}
+use Rattle.hse_io.specs.Faults.{Rose}
+use Rattle.media_disk.specs.laws.Calls.{calls_joined}
+use Rattle.kvdb.specs.Opening.{LeavesDevice, Prepares}
+use Rattle.kvdb.proofs.NewLemmas.{keeps_started}
 use Rattle.kvdb.specs.Sides.{device_in}
 use Rattle.recovery.specs.declared.recovered.Recovered.{Recovered}
 use Rattle.recovery.specs.Layer.{layer_after, layer_with}
@@ -271,22 +273,56 @@ reports_same A B g old new (Version version) has = has
 reports_same A B g old new Device has = has
 reports_same A B g old new NoMemory has = has
 
-pub left_refused : {D : Type 0} (g : Ghosts D) (old new : D) (fault : OpenFault) → CallsMade g old new → OpenReports {T = Recovered} g old new (Err fault)
-    → Keeps g old new → LeavesDevice g old (Err (new, fault))
-left_refused {D = D} g old new fault calls reports keeps = record {
+reports_since : {D : Type 0} (A : Type 0) (g : Ghosts D) (old between new : D) (fault : OpenFault) → g.faults between ≡ g.faults old
+    → OpenReports {T = Recovered} g between new (Err fault) → OpenReports {T = A} g old new (Err fault)
+reports_since A g old between new (NotFormed region place) same has = has ∙ same
+reports_since A g old between new (Version version) same has = has ∙ same
+reports_since A g old between new Device same has = subst (λ (n : ℕ). Rose n (g.faults new)) same has
+reports_since A g old between new NoMemory same has = has ∙ same
+
+-- the device behind it was read
+pub left_read : {D : Type 0} (g : Ghosts D) (old between new : D) (fault : OpenFault) → (g.tells → Prepares g (g.seen old) old between (Ok tt))
+    → CallsMade g old between → CallsMade g between new → g.faults between ≡ g.faults old → OpenReports {T = Recovered} g between new (Err fault)
+    → Keeps g between new → LeavesDevice g old (Err (new, fault))
+left_read {D = D} g old between new fault prepared first second same reports keeps = record {
+  between = between;
+  made = Ok tt;
+  prepared = prepared;
+  new = new;
+  left = refl;
+  calls = calls_joined g old between new first second;
+  reports = reports_since (Kvdb D g) g old between new fault same reports;
+  keeps = keeps;
+  barrier = tt;
+}
+
+-- or it was not prepared
+pub left_unprepared : {D : Type 0} (g : Ghosts D) (old new : D) (fault : OpenFault) → (g.tells → Prepares g (g.seen old) old new (Err fault))
+    → CallsMade g old new → OpenReports {T = Unit {0}} g old new (Err fault) → LeavesDevice g old (Err (new, fault))
+left_unprepared {D = D} g old new fault prepared calls reports = record {
+  between = new;
+  made = Err fault;
+  prepared = prepared;
   new = new;
   left = refl;
   calls = calls;
-  reports = reports_same Recovered (Kvdb D g) g old new fault reports;
-  keeps = keeps;
+  reports = reports_same (Unit {0}) (Kvdb D g) g old new fault reports;
+  keeps = keeps_started g new;
+  barrier = tt;
 }
 
-pub left_started : {D : Type 0} (g : Ghosts D) (old new : D) (db : Kvdb D g) → device_in db.side ≡ Some new → CallsMade g old new
-    → g.faults new ≡ g.faults old → Keeps g old new → LeavesDevice g old (Ok db)
-left_started g old new db left calls same keeps = record { new = new; left = left; calls = calls; reports = same; keeps = keeps }
-
-pub barrier_started : {D : Type 0} (g : Ghosts D) (old new : D) (db : Kvdb D g) (moment : ℕ) → device_in db.side ≡ Some new → db.moment ≡ moment
-    → IsBarrier g old new moment → IfSome (device_in db.side) (λ left. IsBarrier g old left db.moment)
-barrier_started {D = D} g old new db moment left same is =
-    subst (λ (o : Option D). IfSome o (λ d. IsBarrier g old d db.moment)) (sym left)
-    (subst (λ (n : ℕ). IsBarrier g old new n) (sym same) is)
+-- or the engine began
+pub left_started : {D : Type 0} (g : Ghosts D) (old between new : D) (db : Kvdb D g) (moment : ℕ) → (g.tells → Prepares g (g.seen old) old between (Ok tt))
+    → device_in db.side ≡ Some new → CallsMade g old between → CallsMade g between new → g.faults between ≡ g.faults old
+    → g.faults new ≡ g.faults between → Keeps g between new → db.moment ≡ moment → IsBarrier g between new moment → LeavesDevice g old (Ok db)
+left_started g old between new db moment prepared left first second same later keeps moment_is barrier = record {
+  between = between;
+  made = Ok tt;
+  prepared = prepared;
+  new = new;
+  left = left;
+  calls = calls_joined g old between new first second;
+  reports = later ∙ same;
+  keeps = keeps;
+  barrier = subst (λ (n : ℕ). IsBarrier g between new n) (sym moment_is) barrier;
+}

@@ -7,6 +7,7 @@ mod figures;
 mod laws;
 mod leaving;
 mod listing;
+mod new_device;
 mod opening;
 mod reopening;
 mod running;

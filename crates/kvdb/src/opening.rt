@@ -1,23 +1,23 @@
 //! An engine is opened.
-ghost use Rattle.std.specs.Prelude.{◌≡◌, ◌≤◌, ℕ, List, [], Some, IfErr, IfOk, IfSome};
+ghost use Rattle.std.specs.Prelude.{◌≡◌, ◌≤◌, ℕ, List, [], Some, IfErr, IfOk};
 ghost use Rattle.device_layout.specs.Layouts.{params_of, sizes_of, size_of_device};
 ghost use Rattle.hse_rows.specs.machine.Core.{life};
 ghost use Rattle.engine_state.specs.Serves.{SizesServe};
 ghost use Rattle.recovery.specs.Answers.{Finds, HasParts};
 ghost use Rattle.recovery.specs.Image.{IsLoaded, Loaded};
-ghost use Rattle.recovery.specs.Keeps.{IsBarrier};
 ghost use Rattle.recovery.specs.Machine.{stored_of};
 ghost use Rattle.kvdb.specs.Opening.{Opens, LeavesDevice};
 ghost use Rattle.kvdb.specs.Serves.{Serves};
 ghost use Rattle.kvdb.specs.Sides.{device_in};
 
 use crate::engine::Kvdb;
+use crate::new_device::prepare;
 use crate::side::Side;
 use back::{Back, loaded_metadata_may_be_bases};
 use device_layout::Layout;
 use engine_state::{EngineSizes, EngineState};
 use media_disk::Disk;
-use recovery::{OpenFault, Recovered, recover};
+use recovery::{OpenFault, Recovered, images_have_one_loading, recover};
 use std::alloc::Global;
 
 /// The sizes of a layout that bound what an engine takes.
@@ -73,18 +73,21 @@ fn opened<D: Disk>(alloc: Global, disk: D, recovered: Recovered) -> Result<Kvdb<
 }
 
 impl<D: Disk> Kvdb<D> {
-    /// Opens a device: a barrier first, and then what it stores, as `recover` reads it. The engine
-    /// begins a life at what the device stores. `NotFormed` and `Version` come exactly where `recover`
-    /// answers them of this device, and `Device` only where the device failed; then the disk comes back
-    /// with the fault. Nothing is written, and since the barrier's moment a crash leaves nothing but what
-    /// was read.
+    /// Opens a device. An empty one is made a new one with the default parameters first. Then comes a
+    /// barrier, and what it stores, as `recover` reads it, and the engine begins a life there. `NotFormed`
+    /// and `Version` come exactly where `recover` answers them of this device, and `Device` only where the
+    /// device failed; then the disk comes back with the fault. Nothing is written to a device that has
+    /// bytes.
     pub fn start(alloc: Global, disk: D) -> Result<Kvdb<D>, (D, OpenFault)>
         ensures opens { D.tells → Opens D.Device (D.seen disk) result }
         ensures device { LeavesDevice D.Device disk result }
-        ensures barrier { IfOk result (λ db. IfSome (device_in db.side)
-            (λ new. IsBarrier D.Device disk new db.moment)) }
     {
+        images_have_one_loading();
         let mut left = disk;
+        match prepare(alloc, &mut left) {
+            Ok(()) => {}
+            Err(fault) => return Err((left, fault)),
+        }
         let recovered = match recover(alloc, &mut left) {
             Ok(recovered) => recovered,
             Err(fault) => return Err((left, fault)),
