@@ -33,13 +33,13 @@ fn store(alloc: Global, number: u64, name: &[u8], mode: Mode) -> Result<BaseStor
     })
 }
 
-/// The base behind the numbers 1 and 2, with the stores `s` and `t`.
+/// The base behind the numbers 1 and 2, with the stores `t` and `s`.
 fn base(alloc: Global) -> Result<Base, Fail> {
     let mut taken = Vec::new(alloc);
     taken.push(TakenRun { first: 1, count: 2 })?;
     let mut stores = Vec::new(alloc);
-    stores.push(store(alloc, 1, b"s", Mode::Plain)?)?;
-    stores.push(store(alloc, 2, b"t", Mode::Tx)?)?;
+    stores.push(store(alloc, 1, b"t", Mode::Tx)?)?;
+    stores.push(store(alloc, 2, b"s", Mode::Plain)?)?;
     Ok(Base {
         horizon: 0,
         first: 1,
@@ -87,12 +87,12 @@ fn with_store(
     Ok(back.disk)
 }
 
-/// The bytes of a new device with the `plain` store `s` of id 1 and the `tx` store `t` of id 2.
+/// The bytes of a new device with the `tx` store `t` of id 1 and the `plain` store `s` of id 2.
 pub(crate) fn formed(rt: &impl Abort, alloc: Global) -> Result<Vec<u8>, Fail> {
     let mut disk = MemDisk::new(alloc);
     format(alloc, &mut disk, &PARAMS)?;
-    let disk = with_store(rt, alloc, disk, b"s", Mode::Plain)?;
     let disk = with_store(rt, alloc, disk, b"t", Mode::Tx)?;
+    let disk = with_store(rt, alloc, disk, b"s", Mode::Plain)?;
     Ok(disk.bytes().to_vec(alloc)?)
 }
 

@@ -86,3 +86,20 @@ fn a_closing_tells_of_a_device_that_failed(rt: HostRuntime) -> Result<(), Fail> 
     }
     Ok(())
 }
+
+#[test]
+fn an_empty_device_is_made_a_new_one(rt: HostRuntime) -> Result<(), Fail> {
+    let db = engine_of(rt.alloc(), MemDisk::new(rt.alloc()))?;
+    let number = db.view().number();
+    let stores = db.view().stores().len();
+    let Closed { disk, result } = db.close(rt.alloc());
+    assert_eq!(rt; number, 0);
+    assert_eq!(rt; stores, 0);
+    assert_eq!(rt; result, Ok(0));
+    let disk = disk.stopped(rt.alloc(), Fill::Byte(0))?;
+    let db = engine_of(rt.alloc(), disk)?;
+    let number = db.view().number();
+    leave(db);
+    assert_eq!(rt; number, 0);
+    Ok(())
+}

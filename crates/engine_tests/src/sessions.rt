@@ -1,7 +1,7 @@
 //! Writes, snapshots and what refuses them.
 use crate::device::{engine, formed, has, leave, put};
 use engine_state::{BeginFault, WriteFault};
-use hse_rows::{ChangeRef, StoreName};
+use hse_rows::{ChangeRef, Mode, StoreName};
 use kvdb::Kvdb;
 use media_disk::MemDisk;
 use std::alloc::Global;
@@ -64,6 +64,28 @@ fn refuse(rt: &impl Abort, alloc: Global, db: &mut Kvdb<MemDisk>) -> Result<(), 
 fn writes_are_refused_in_order(rt: HostRuntime) -> Result<(), Fail> {
     let mut db = engine(rt.alloc(), &formed(&rt, rt.alloc())?)?;
     let told = refuse(&rt, rt.alloc(), &mut db);
+    leave(db);
+    told
+}
+
+/// The stores come by their names, and not as they were created.
+fn list(rt: &impl Abort, alloc: Global, db: &Kvdb<MemDisk>) -> Result<(), Fail> {
+    let stores = db.stores(alloc)?;
+    assert_eq!(rt; stores.len(), 2);
+    let (Some(first), Some(second)) = (stores.get(0), stores.get(1)) else {
+        return Err("a store is missing".into());
+    };
+    assert_eq!(rt; first.name.bytes(), b"s".as_slice());
+    assert_eq!(rt; first.mode, Mode::Plain);
+    assert_eq!(rt; second.name.bytes(), b"t".as_slice());
+    assert_eq!(rt; second.mode, Mode::Tx);
+    Ok(())
+}
+
+#[test]
+fn stores_are_listed_by_name(rt: HostRuntime) -> Result<(), Fail> {
+    let db = engine(rt.alloc(), &formed(&rt, rt.alloc())?)?;
+    let told = list(&rt, rt.alloc(), &db);
     leave(db);
     told
 }
