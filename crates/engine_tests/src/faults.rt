@@ -41,7 +41,9 @@ fn an_engine_whose_turn_failed_takes_nothing_until_it_is_opened_again(
 fn open_again(rt: &impl Abort, alloc: Global, db: &mut Kvdb<MemDisk>) -> Result<(), Fail> {
     put(alloc, db, b"a", b"v")??;
     let turn = db.take_turn(alloc, &TurnWish::Sync)?;
-    assert_eq!(rt; db.end_turn(turn.run()), Ok(3));
+    let ran = turn.run();
+    assert!(rt; !ran.failed());
+    assert_eq!(rt; db.end_turn(ran), Ok(3));
     assert_eq!(rt; put(alloc, db, b"b", b"w")?, Ok(4));
     assert_eq!(rt; db.reopen(alloc), Ok(3));
     assert!(rt; has(alloc, db, b"a", Some(b"v".as_slice()))?);

@@ -1,5 +1,6 @@
 //! Turns of a sync, devices that stop within, and what comes behind a turn that is out.
-ghost use Rattle.std.specs.Prelude.{◌≡◌, IfOk, OnOk};
+ghost use Rattle.std.specs.Prelude.{◌≡◌, IfOk, IsSome, OnOk};
+ghost use Rattle.kvdb.specs.Sides.{device_in};
 ghost use Rattle.kvdb.specs.declared.side.Side.TheVariants as side;
 
 use crate::device::{engine, engine_of, formed, has, leave, put};
@@ -31,7 +32,9 @@ fn opened_at(alloc: Global, bytes: &[u8]) -> Result<u64, Fail> {
 }
 
 /// The engine of a device of these bytes, which fails so in its first turn.
-pub(crate) fn failing(alloc: Global, bytes: &[u8], fault: Fault) -> Result<Kvdb<MemDisk>, Fail> {
+pub(crate) fn failing(alloc: Global, bytes: &[u8], fault: Fault) -> Result<Kvdb<MemDisk>, Fail>
+    ensures { IfOk result (λ db. IsSome (device_in db.side)) }
+{
     let at = opened_at(alloc, bytes)?.saturating_add(fault.call);
     let mut disk = MemDisk::of(alloc, bytes.to_vec(alloc)?);
     if fault.once {
@@ -154,7 +157,9 @@ fn write_behind(rt: &impl Abort, alloc: Global, db: &mut Kvdb<MemDisk>) -> Resul
             Err(fault)
         }
         Ok((number, busy)) => {
-            assert_eq!(rt; db.end_turn(turn.run()), Ok(4));
+            let ran = turn.run();
+            assert!(rt; !ran.failed());
+            assert_eq!(rt; db.end_turn(ran), Ok(4));
             assert_eq!(rt; number, 5);
             assert_eq!(rt; busy, TurnFault::Busy(TurnKind::Sync));
             Ok(())
