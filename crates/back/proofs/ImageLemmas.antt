@@ -25,7 +25,7 @@ layout_same layout at n old new low torn has = record {
 
 -- ---- the manifest
 
-head_is : (region : Region) (image : List ℕ) → 10 ≤ region.size → head_in region image ≡ head_of (take 10 (region_of region image))
+pub head_is : (region : Region) (image : List ℕ) → 10 ≤ region.size → head_in region image ≡ head_of (take 10 (region_of region image))
 head_is region image le = ap head_of (sym (take-take 10 region.size (drop region.at image) le))
 
 head_same : (region : Region) (old new : List ℕ) → 10 ≤ region.size → region_of region new ≡ region_of region old

@@ -15,3 +15,4 @@ pub mod LiveLemmas
 pub mod BaseLemmas
 pub mod CountLemmas
 pub mod LoadedLemmas
+pub mod LifeLemmas

@@ -16,7 +16,7 @@ use Rattle.back.proofs.RunLemmas.{last_push, or_left, or_more, or_right, or_true
 
 -- ---- names
 
-or_none : (a b : Bool) → a ≡ false → b ≡ false → (a || b) ≡ false
+pub or_none : (a b : Bool) → a ≡ false → b ≡ false → (a || b) ≡ false
 or_none false b p q = q
 or_none true b p q = absurd cc
 
@@ -28,13 +28,13 @@ none_right : (a b : Bool) → (a || b) ≡ false → b ≡ false
 none_right false b p = p
 none_right true b p = absurd cc
 
-free_front : (name : List ℕ) (stores : List LiveStore) (store : LiveStore) → is_used name (stores ++ store ∷ []) ≡ false → is_used name stores ≡ false
+pub free_front : (name : List ℕ) (stores : List LiveStore) (store : LiveStore) → is_used name (stores ++ store ∷ []) ≡ false → is_used name stores ≡ false
 free_front name [] store free = refl
 free_front name (first ∷ stores) store free =
     or_none (is_named name first) (is_used name stores) (none_left (is_named name first) (is_used name (stores ++ store ∷ [])) free)
     (free_front name stores store (none_right (is_named name first) (is_used name (stores ++ store ∷ [])) free))
 
-free_last : (name : List ℕ) (stores : List LiveStore) (store : LiveStore) → is_used name (stores ++ store ∷ []) ≡ false → is_named name store ≡ false
+pub free_last : (name : List ℕ) (stores : List LiveStore) (store : LiveStore) → is_used name (stores ++ store ∷ []) ≡ false → is_named name store ≡ false
 free_last name [] store free = none_left (is_named name store) false free
 free_last name (first ∷ stores) store free =
     free_last name stores store (none_right (is_named name first) (is_used name (stores ++ store ∷ [])) free)
@@ -113,7 +113,7 @@ record AreFewer (fewer known : List LiveStore) : Type 0 where
   last : last_id fewer ≤ last_id known
   free : (name : List ℕ) → is_used name known ≡ false → is_used name fewer ≡ false
 
-last_is : (known : List LiveStore) (store : LiveStore) → last_id (known ++ store ∷ []) ≡ store.id
+pub last_is : (known : List LiveStore) (store : LiveStore) → last_id (known ++ store ∷ []) ≡ store.id
 last_is known store = last_push (λ (s : LiveStore). s.id) 0 known store
 
 -- where one is not there

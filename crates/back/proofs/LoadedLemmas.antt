@@ -32,11 +32,11 @@ use Rattle.back.proofs.RunLemmas.{AreNear, are_runs, near_more, taken_count, tak
 -- ---- what is loaded
 
 module _ (image : List ℕ) (loaded : Loaded) (says : IsLoaded image loaded) where
-  read : IsRead loaded.layout.stores (tail_of says.manifest.payloads) loaded.metadata
+  pub read : IsRead loaded.layout.stores (tail_of says.manifest.payloads) loaded.metadata
   read = all_read loaded.layout.stores first_gate says.manifest.payloads loaded.metadata says.manifest.says
 
-  -- the half in force has room for its batches
-  inside : tail_of says.manifest.payloads ≤ loaded.layout.manifest
+  -- the half in force has room for its batches, and for the gate behind them
+  pub inside : tail_of says.manifest.payloads < loaded.layout.manifest
   inside =
       let gated = says.manifest.gated in
       let region : List ℕ = region_of (half_of loaded.layout loaded.half) image in
@@ -59,10 +59,10 @@ module _ (image : List ℕ) (loaded : Loaded) (says : IsLoaded image loaded) whe
 
   -- ---- the log
 
-  behind : Behind (prefixes_of loaded.metadata.stores) (loaded.metadata.horizon + 1) (numbers_of loaded.metadata.taken) loaded.layout.log loaded.log.entries says.log.last
+  pub behind : Behind (prefixes_of loaded.metadata.stores) (loaded.metadata.horizon + 1) (numbers_of loaded.metadata.taken) loaded.layout.log loaded.log.entries says.log.last
   behind = behind_log loaded.layout image loaded.metadata loaded.log says.log says.full
 
-  top_is : last_number loaded + 1 ≡ free_from says.log.last.next (numbers_of loaded.metadata.taken)
+  pub top_is : last_number loaded + 1 ≡ free_from says.log.last.next (numbers_of loaded.metadata.taken)
   top_is = next_is loaded.layout image loaded.metadata loaded.log says.log says.full
 
   no_more : HasNoMore (loaded.metadata.horizon + 1) (last_number loaded + 1) (numbers_of loaded.metadata.taken) (length loaded.log.entries)

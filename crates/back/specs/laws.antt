@@ -1,2 +1,3 @@
 -- Laws of what values say, for the crates above.
 pub mod Counted
+pub mod Charged

@@ -2,9 +2,12 @@
 ghost use Rattle.std.specs.Prelude.{◌≡◌, ◌+◌, ◌^◌, ◌<◌, ◌≤◌, ℕ, List, length, false, true, Some, Ok, Err};
 ghost use Rattle.gate_log.specs.Places.{need_of};
 ghost use Rattle.hse_fields.specs.LogText.{Entry as a_commit};
+ghost use Rattle.hse_rows.specs.machine.Core.{life};
+ghost use Rattle.hse_rows.specs.machine.Limits.{IsWithinLimits};
 ghost use Rattle.hse_rows.specs.machine.ManifestRoom.{gained, goes_into_no_half, half_room, ManifestState};
 ghost use Rattle.hse_rows.specs.machine.TakenRuns.{numbers_of};
 ghost use Rattle.hse_rows.specs.states.History.{commits, creates, drops, folded, happened};
+ghost use Rattle.hse_rows.specs.states.State.{IsState};
 ghost use Rattle.manifest.specs.MayCome.{MayBeBase, MayCome};
 ghost use Rattle.manifest.specs.Metadata.{LiveStore, Metadata};
 ghost use Rattle.manifest.specs.Text.{Entry as an_entry, create, drop, base_text, entry_text};
@@ -15,7 +18,7 @@ ghost use Rattle.wal.specs.Logged.{entry_of};
 ghost use Rattle.wal.specs.declared.commit.Commit.{Commit as a_wal_commit};
 ghost use Rattle.back.specs.Bases.{AreCounted, AreKnown};
 ghost use Rattle.back.specs.Events.{event_of, events_of};
-ghost use Rattle.recovery.specs.Machine.{manifest_of};
+ghost use Rattle.recovery.specs.Machine.{manifest_of, stored_of};
 ghost use Rattle.back.specs.Plans.{HasRoomFor, IsCounted, IsPlan};
 ghost use Rattle.back.specs.declared.plan.EntryPlan.{EntryPlan as a_plan};
 ghost use Rattle.back.specs.declared.plan.PlanFault.TheVariants.{ManifestFull};
@@ -95,4 +98,12 @@ pub fn loaded_metadata_may_be_bases()
         → MayCome most (Some before) entry → length (entry_text entry) < 2 ^ 32 }
     ensures stores { (image : List ℕ) (loaded : Loaded) → IsLoaded image loaded
         → AreKnown (last_number loaded) loaded.metadata.stores }
+{}
+
+/// The life that begins at what is loaded of a device is within the limits, and its base is a state.
+pub fn loaded_lives_keep_limits()
+    ensures limits { (image : List ℕ) (loaded : Loaded) → IsLoaded image loaded
+        → IsWithinLimits (life (stored_of loaded)) }
+    ensures base { (image : List ℕ) (loaded : Loaded) → IsLoaded image loaded
+        → IsState (stored_of loaded).base }
 {}
