@@ -14,3 +14,4 @@ pub mod StoreLemmas
 pub mod StoreTables
 pub mod EnterLemmas
 pub mod LeaveLemmas
+pub mod KeepLemmas

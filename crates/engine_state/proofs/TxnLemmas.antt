@@ -34,7 +34,7 @@ is-going (committed number) is = absurd cc
 is-going machine.aborted is = absurd cc
 
 -- later events change nothing of it
-stands-grow : {R : Type 0} (rows : R → List Row) (base : State) (events later : List Event) (kept : TxnKept R) (transaction : Transaction)
+pub stands-grow : {R : Type 0} (rows : R → List Row) (base : State) (events later : List Event) (kept : TxnKept R) (transaction : Transaction)
     → transaction.snapshot ≤ last_number base events → StandsFor rows base events kept transaction
     → StandsFor rows base (events ++ later) kept transaction
 stands-grow rows base events later kept transaction low s = record {

@@ -7,3 +7,4 @@ pub mod Plain
 pub mod Inside
 pub mod Turns
 pub mod Stores
+pub mod Keeping
