@@ -1,5 +1,5 @@
 -- Steps keep states sound, and transactions of others.
-use Rattle.std.proofs.Common.{◌≡◌, ◌⊎◌, inl, inr, refl, sym, ap, ◌∙◌, subst, ℕ, zero, suc, ◌+◌, ◌≤◌, Bool, true, List, [], ◌∷◌, ◌++◌, set, slice_get, Option, Some, None}
+use Rattle.std.proofs.Common.{◌≡◌, ◌⊎◌, inl, inr, refl, sym, ap, ◌∙◌, subst, arith, ℕ, zero, suc, ◌+◌, ◌≤◌, Bool, true, List, [], ◌∷◌, ◌++◌, set, slice_get, Option, Some, None}
 use Rattle.std.specs.FinMap as fin_map
 use Rattle.hse_rows.specs.declared.row.Row.{Row}
 use Rattle.hse_rows.specs.declared.row_set.RowSet.{Ghosts}
@@ -14,10 +14,10 @@ use Rattle.hse_rows.specs.transactions.Timeline.{Timeline, Goes, stays, moves, o
 use Rattle.hse_rows.specs.rows.Job.{JobWish, job_of}
 use Rattle.hse_rows.specs.rows.Schedule.{next_wish}
 use Rattle.hse_rows.specs.machine.Turn.{Turn, TurnWish, sync, freeze, create, drop, home, taken, ran, written}
-use Rattle.hse_rows.specs.machine.Sizes.{Sizes}
+use Rattle.hse_rows.specs.machine.Sizes.{Sizes, AreSizes}
 use Rattle.hse_rows.specs.machine.Replies.{Refusal, Answer, accepted, none, refused, no_memory, device_fault}
 use Rattle.hse_rows.specs.machine.Calls.{outside, inside, Call, begin, write_by, get, commit, abort, tree, build, next_job, take, write_turn, end_turn, reopen}
-use Rattle.hse_rows.specs.machine.Core.{Core, Stored, life, now, write_to}
+use Rattle.hse_rows.specs.machine.Core.{Core, Stored, life, formatted, now, write_to}
 use Rattle.hse_rows.specs.machine.Core as core
 use Rattle.hse_rows.specs.machine.CoreRefusal.{refusal}
 use Rattle.hse_rows.specs.machine.CoreReply.{reply, end_reply, found_value, next_reply, value_in}
@@ -109,6 +109,26 @@ loads-state (has_version version) sound = tt
 
 pub life_sound : LivesStand → (stored : Stored) → IsWithinLimits (life stored) → IsState stored.base → IsSound (life stored)
 life_sound stand stored limits state = record { limits = limits; stands = stand stored state }
+
+new_fits : (sizes : Sizes) (power : ℕ) → AreSizes sizes power → IsWithinLimits (life (formatted sizes))
+new_fits sizes power are =
+    let half : 65536 ≤ sizes.half_size = are.half.least in
+    record {
+      history = record { numbers = omega arith; stores = omega arith };
+      log = record { room = omega arith; layers = omega arith; frozen = tt; segments = omega arith };
+      manifest = record { used = omega (arith, half); sequence = omega arith };
+      slots = omega arith;
+      since_base = omega arith;
+      until_now = omega arith;
+      transactions = record { live = omega arith; begins = omega arith };
+      jobs = record { live = omega arith; ids = omega arith; claims = tt };
+      cursors = omega arith;
+      turn = tt;
+    }
+
+pub new_sound : LivesStand → (sizes : Sizes) (power : ℕ) → AreSizes sizes power → IsSound (life (formatted sizes))
+new_sound stand sizes power are =
+    life_sound stand (formatted sizes) (new_fits sizes power are) (record { rising = tt; named = tt })
 
 module _ (keep : StepsKeepLimits) (stand : StepsKeepStanding) where
   pub step_sound : (found : Found) (old new : Core) (call : Call) (answer : Answer ℕ) → LoadsSound found → IsSound old → Step found old call answer new

@@ -6,7 +6,8 @@ use Rattle.hse_rows.specs.transactions.Transaction.{Transaction}
 use Rattle.hse_rows.specs.transactions.Timeline.{transaction_of}
 use Rattle.hse_rows.specs.machine.Calls.{outside, inside, Call, begin, write_by, get, commit, abort, list_stores, tree, info, take_place, give_place, pick, build, drop_job, next_job, take, take_install, write_turn, end_turn, reopen}
 use Rattle.hse_rows.specs.machine.Replies.{Refusal, Answer}
-use Rattle.hse_rows.specs.machine.Core.{Core, Stored, life}
+use Rattle.hse_rows.specs.machine.Sizes.{Sizes, AreSizes}
+use Rattle.hse_rows.specs.machine.Core.{Core, Stored, life, formatted}
 use Rattle.hse_rows.specs.machine.CoreRefusal.{refusal}
 use Rattle.hse_rows.specs.machine.CoreDone.{done, refused_to, failing}
 use Rattle.hse_rows.specs.machine.CoreStep.{Found, loads, breaks_off, has_version, Step}
@@ -19,6 +20,10 @@ use Rattle.engine_state.specs.Serves.{IsSound, IsTxnOf}
 -- A life that begins within the limits, at a state, is sound.
 abbrev pub LivesAreSound : Type 0
 LivesAreSound = (stored : Stored) → IsWithinLimits (life stored) → IsState stored.base → IsSound (life stored)
+
+-- So is a life on a device that was just formatted.
+abbrev pub NewLivesAreSound : Type 0
+NewLivesAreSound = (sizes : Sizes) (power : ℕ) → AreSizes sizes power → IsSound (life (formatted sizes))
 
 -- the life at what is loaded is sound
 abbrev pub LoadsSound : Found → Type 0

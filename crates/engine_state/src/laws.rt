@@ -1,7 +1,7 @@
 //! Laws of the engine's state. The contract of each function is the law.
 ghost use Rattle.engine_state.specs.Inside.{AreRemembered};
 ghost use Rattle.engine_state.specs.Keeping.{CallsKeepSound, FailuresKeepSound, LivesAreSound};
-ghost use Rattle.engine_state.specs.Keeping.{RefusalsKeepSound, StepsKeepSound};
+ghost use Rattle.engine_state.specs.Keeping.{NewLivesAreSound, RefusalsKeepSound, StepsKeepSound};
 ghost use Rattle.engine_state.specs.Keeping.{OtherCallsKeepTransactions, OthersKeepTransactions};
 ghost use Rattle.engine_state.specs.Keeping.{TransactionsStay};
 
@@ -14,11 +14,12 @@ pub fn transactions_are_remembered<R: Shared>()
     ensures { AreRemembered R.RowSet }
 {}
 
-/// A life that begins within the limits, at a state, is sound, and each step leads from a sound state
-/// to a sound one, where what a reopening loads is sound: also a call that nothing refuses, a refusal
-/// and a failed call of the device.
+/// A life that begins within the limits, at a state, is sound, also on a device that was just
+/// formatted. Each step leads from a sound state to a sound one, where what a reopening loads is
+/// sound: also a call that nothing refuses, a refusal and a failed call of the device.
 pub fn steps_keep_states_sound()
     ensures lives { LivesAreSound }
+    ensures new { NewLivesAreSound }
     ensures steps { StepsKeepSound }
     ensures calls { CallsKeepSound }
     ensures refusals { RefusalsKeepSound }
