@@ -3,6 +3,7 @@ mod FormLemmas
 mod HistoryLemmas
 mod InsideLemmas
 mod LeavingLemmas
+mod LifeLemmas
 mod ListingLemmas
 mod NewLemmas
 mod OpeningLemmas

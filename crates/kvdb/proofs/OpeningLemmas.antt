@@ -132,8 +132,7 @@ take-none : (n : ℕ) → take {A = Event} n [] ≡ []
 take-none zero = refl
 take-none (suc n) = refl
 
-module _ (stored : Stored) (below : CommitsUpTo stored.base.number stored.log.active)
-    (known : AllByRecursion (IsKnown stored.base.number) stored.base.stores) where
+module _ (stored : Stored) (below : CommitsUpTo stored.base.number stored.log.active) where
   none-since : events_since stored.base [] stored.base.number ≡ []
   none-since = drop-nil (stored.base.number - stored.base.number)
 
@@ -143,8 +142,8 @@ module _ (stored : Stored) (below : CommitsUpTo stored.base.number stored.log.ac
       ∙ take-none (stored.base.number - stored.base.number)
 
   -- nothing waits
-  pub pending_life : IsPending (life stored)
-  pending_life = record {
+  pub pending_life : AllByRecursion (IsKnown stored.base.number) stored.base.stores → IsPending (life stored)
+  pending_life known = record {
     settled = stored.log.active;
     below = below;
     active =
@@ -251,7 +250,7 @@ module _ {D : Type 0} (g : Ghosts D) (image : List ℕ) (db : Kvdb D g) (back : 
           settled = λ whole told. record {
             loaded = loaded;
             rests = rests has told;
-            same = stored_life (stored_of loaded) below (stores-known (number_of loaded.metadata loaded.log) loaded.log.entries loaded.metadata.stores known);
+            same = stored_life (stored_of loaded) below;
           };
           broken = λ failed. absurd cc;
         });

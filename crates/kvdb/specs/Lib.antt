@@ -14,4 +14,5 @@ pub mod Listing
 pub mod Leaving
 pub mod Opening
 pub mod Reopening
+pub mod Lives
 pub mod laws

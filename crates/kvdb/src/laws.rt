@@ -1,6 +1,9 @@
-//! Laws of engines. The contract of the function is the law.
+//! Laws of engines. The contract of each function is the law.
+ghost use Rattle.kvdb.specs.Lives.{LivesAreSound, OpeningsBeginSound};
 ghost use Rattle.kvdb.specs.Steps.{AreRemembered};
 
+use back::loaded_lives_keep_limits;
+use engine_state::steps_keep_states_sound;
 use kvset::Kvset;
 use media_disk::Disk;
 
@@ -9,4 +12,13 @@ pub fn transactions_are_remembered<D: Disk>()
     ensures { AreRemembered D.Device }
 {
     engine_state::transactions_are_remembered::<Kvset>();
+}
+
+/// An engine that is opened begins a sound life, and so does one that is opened again in place.
+pub fn engines_begin_sound_lives<D: Disk>()
+    ensures openings { OpeningsBeginSound D.Device }
+    ensures lives { LivesAreSound D.Device }
+{
+    loaded_lives_keep_limits();
+    steps_keep_states_sound();
 }

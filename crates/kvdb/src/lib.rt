@@ -18,7 +18,7 @@ mod turn;
 
 pub use engine::Kvdb;
 pub use figures::Info;
-pub use laws::transactions_are_remembered;
+pub use laws::{engines_begin_sound_lives, transactions_are_remembered};
 pub use leaving::{CloseFault, Closed};
 pub use listing::StoreLine;
 pub use reopening::ReopenFault;
