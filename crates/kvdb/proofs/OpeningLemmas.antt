@@ -58,7 +58,7 @@ use Rattle.kvdb.specs.Serves.{of_sets, Serves}
 use Rattle.kvdb.specs.declared.engine.Kvdb.{Kvdb}
 use Rattle.kvdb.specs.declared.side.Side.TheVariants as side
 use Rattle.kvdb.proofs.TurnLemmas.{side_home}
-use Rattle.kvdb.proofs.WritableLemmas.{entries-charged}
+use Rattle.back.specs.laws.Charged.{entries_charged}
 use Rattle.kvdb.specs.laws.Events.{up_to-all}
 use Rattle.kvdb.specs.laws.Growth.{stored_same}
 
@@ -198,7 +198,7 @@ module _ (image : List ℕ) (loaded : Loaded) (r : Recovered) (is : IsLoaded ima
           (rows_opened loaded is.named),
       tt,
     );
-    charged = finds.log.charges ∙ entries-charged loaded.log.entries;
+    charged = finds.log.charges ∙ entries_charged loaded.log.entries;
     sized = sized;
   }
 

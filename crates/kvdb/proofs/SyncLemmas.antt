@@ -36,7 +36,8 @@ use Rattle.kvdb.specs.Found.{Entered, entered_at, entered_with, events_to, is_up
 use Rattle.kvdb.specs.Pending.{IsLoggable, IsPending, unsafe_events}
 use Rattle.kvdb.specs.laws.Events.{entered-commits, length-commits_in, up_to-all, up_to-none, commits_in-below, up_to-more}
 use Rattle.kvdb.specs.laws.Growth.{stored_same}
-use Rattle.kvdb.proofs.WritableLemmas.{CommitsArePayload, are_payload, entries-charged, length-entries, names_known, numbered-commits, prefixes-fit}
+use Rattle.back.specs.laws.Charged.{entries_charged}
+use Rattle.kvdb.proofs.WritableLemmas.{CommitsArePayload, are_payload, length-entries, names_known, numbered-commits, prefixes-fit}
 use Rattle.kvdb.proofs.StateLemmas.{folded-commits, writes-logged, stores-with, fold-since, free-behind}
 
 -- ---- entries, as commits
@@ -183,9 +184,9 @@ module _ (m : Core) (pending : IsPending m) (low : m.timeline.base.number ≤ m.
     charges-all =
         let was : map numbered_of loaded.log.entries ≡ pending.settled = ap (λ (s : Stored). s.log.active) same ∙ active-safe in
         let one : charges loaded.log.entries ≡ charge_of_commits pending.settled =
-        entries-charged loaded.log.entries ∙ ap charge_of_commits was in
+        entries_charged loaded.log.entries ∙ ap charge_of_commits was in
         let other : charges (entries_of (commits_in (m.safe + 1) (unsafe_events m))) ≡ charge_of_commits (commits_in (m.safe + 1) (unsafe_events m)) =
-        entries-charged (entries_of (commits_in (m.safe + 1) (unsafe_events m)))
+        entries_charged (entries_of (commits_in (m.safe + 1) (unsafe_events m)))
         ∙ ap charge_of_commits (numbered-entries (commits_in (m.safe + 1) (unsafe_events m))) in
         let both : charge_of_active m.log ≡ charge_of_commits pending.settled + charge_of_commits (commits_in (m.safe + 1) (unsafe_events m)) =
         ap charge_of_commits pending.active
@@ -211,7 +212,7 @@ module _ (m : Core) (pending : IsPending m) (low : m.timeline.base.number ≤ m.
               charges-all,
               room,
               segment,
-              entries-charged (entries_of (commits_in (m.safe + 1) (unsafe_events m))),
+              entries_charged (entries_of (commits_in (m.safe + 1) (unsafe_events m))),
               ap charge_of_commits (numbered-entries (commits_in (m.safe + 1) (unsafe_events m))),
             ))
             pending.waiting some);

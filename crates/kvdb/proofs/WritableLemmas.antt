@@ -3,13 +3,11 @@ use Rattle.std.specs.List.{All, AllByRecursion, flat_map}
 use Rattle.std.proofs.Common.{◌≡◌, ℕ, suc, ◌+◌, ◌-◌, ◌^◌, ◌<◌, ◌≤◌, nat_le, ◌==◌, Bool, true, false, cond, List, [], ◌∷◌, ◌++◌, length, map, refl, sym, ◌∙◌, ap, subst, arith, length-append}
 use Rattle.std.proofs.lemmas.List.Elements.{All-from_recursion}
 use Rattle.std.proofs.lemmas.List.Sums.{sum_by-cons}
-use Rattle.byteorder.specs.Endian.{big_bytes}
-use Rattle.byteorder.specs.Numbers.{length-bytes_high_first}
 use Rattle.hse_fields.specs.LogForm.{ArePayload}
 use Rattle.hse_fields.specs.LogReading.{PrefixesFit}
 use Rattle.hse_fields.specs.LogReading as reading
 use Rattle.hse_fields.specs.LogText as log
-use Rattle.hse_fields.specs.LogText.{Entry, changes_text, change_text}
+use Rattle.hse_fields.specs.LogText.{Entry}
 use Rattle.hse_rows.specs.declared.change.Change.{Change}
 use Rattle.hse_rows.specs.declared.change.Change.TheVariants.{Put, Del, PDel}
 use Rattle.hse_rows.specs.declared.write.Write.{Write}
@@ -25,12 +23,11 @@ use Rattle.hse_rows.specs.machine.Recorded.{commits_in, taken_in}
 use Rattle.manifest.specs.Metadata.{LiveStore}
 use Rattle.recovery.specs.Image.{prefixes_of}
 use Rattle.recovery.specs.laws.Names.{named_below}
-use Rattle.recovery.specs.Stored.{store_in, write_in, change_by}
-use Rattle.recovery.specs.Machine.{numbered_of}
+use Rattle.recovery.specs.Stored.{store_in}
 use Rattle.wal.specs.Charges.{charges}
 use Rattle.wal.specs.Live.{prefix_fits}
 use Rattle.wal.specs.Logged as wal
-use Rattle.wal.specs.Logged.{charge, logged, logged_all, entry_with}
+use Rattle.wal.specs.Logged.{logged, logged_all, entry_with}
 use Rattle.wal.specs.Numbered.{AreNumbered}
 use Rattle.wal.specs.Stores.{OfEachStore}
 use Rattle.wal.specs.Writable.{IsWritable, IsWritableCommit}
@@ -52,61 +49,6 @@ length-entries [] = refl
 length-entries (commit ∷ these) = ap suc (length-entries these)
 
 -- ---- charges
-
--- what stands before a change's value
-head-long : (c : log.Change) → length (change_text c) ≡ 11 + length c.name + length (log.value_text c.kind c.value)
-head-long c =
-    omega (
-      arith,
-      length-append (big_bytes 1 (log.code c.kind)) (big_bytes 8 c.store ++ (log.sized 2 c.name ++ log.value_text c.kind c.value)),
-      length-append (big_bytes 8 c.store) (log.sized 2 c.name ++ log.value_text c.kind c.value),
-      length-append (log.sized 2 c.name) (log.value_text c.kind c.value),
-      length-append (big_bytes 2 (length c.name)) c.name,
-      length-bytes_high_first 1 (log.code c.kind),
-      length-bytes_high_first 8 c.store,
-      length-bytes_high_first 2 (length c.name),
-    )
-
-change-charged : (c : log.Change) → length (change_text c) ≡ change_bytes (change_by c.kind c.name c.value)
-change-charged c = head-long c ∙ by c.kind
-  where
-    by : (kind : log.Kind) → 11 + length c.name + length (log.value_text kind c.value) ≡ change_bytes (change_by kind c.name c.value)
-    by log.put = omega (arith, length-append (big_bytes 4 (length c.value)) c.value, length-bytes_high_first 4 (length c.value))
-    by log.del = omega arith
-    by log.pdel = omega arith
-
-changes-charged : (changes : List log.Change) → length (flat_map change_text changes) ≡ writes_bytes (map write_in changes)
-changes-charged [] = refl
-changes-charged (c ∷ cs) =
-    omega (
-      arith,
-      length-append (change_text c) (flat_map change_text cs),
-      change-charged c,
-      changes-charged cs,
-      sum_by-cons (λ (w : Write). change_bytes w.change) (write_in c) (map write_in cs),
-    )
-
-entry-charged : (entry : Entry) → charge entry ≡ charge_of (map write_in entry.changes)
-entry-charged entry =
-    omega (
-      arith,
-      changes-charged entry.changes,
-      length-append (big_bytes 8 entry.number) (changes_text entry.changes),
-      length-append (big_bytes 4 (length entry.changes)) (flat_map change_text entry.changes),
-      length-bytes_high_first 8 entry.number,
-      length-bytes_high_first 4 (length entry.changes),
-    )
-
-pub entries-charged : (entries : List Entry) → charges entries ≡ charge_of_commits (map numbered_of entries)
-entries-charged [] = refl
-entries-charged (entry ∷ entries) =
-    omega (
-      arith,
-      entry-charged entry,
-      entries-charged entries,
-      sum_by-cons charge entry entries,
-      sum_by-cons (λ (commit : Numbered). charge_of commit.writes) (numbered_of entry) (map numbered_of entries),
-    )
 
 -- each write takes bytes
 few-writes : (writes : List Write) → length writes ≤ charge_of writes
