@@ -13,18 +13,21 @@ use Rattle.device_layout.specs.Layouts.{half_of}
 use Rattle.device_layout.specs.declared.layout.Layout.{Layout}
 use Rattle.manifest.specs.Half.{Holds, head_size}
 use Rattle.manifest.specs.Loading.{HoldsAt}
+use Rattle.manifest.specs.MayCome.{MayCome}
 use Rattle.manifest.specs.Metadata.{Metadata}
 use Rattle.manifest.specs.Reading.{payload_of}
-use Rattle.manifest.specs.Text.{Entry, base_text, entry_text}
+use Rattle.manifest.specs.Text.{Entry, base, create, drop, base_text, entry_text}
 use Rattle.manifest.specs.Writing.{room_in, HalvesApart, IsLogged, IsRolled, LeavesHalf, OldOrLogged, OldOrRolled}
 use Rattle.manifest.specs.declared.manifest.Manifest.{Manifest}
 use Rattle.manifest.specs.laws.Again.{base_again}
 use Rattle.recovery.specs.Image.{IsLoaded, Loaded}
 use Rattle.wal.specs.declared.ring.Ring.{Ring}
+use Rattle.back.specs.Bases.{AreCounted}
 use Rattle.back.specs.Home.{AtRest, IsHome}
 use Rattle.back.specs.Leaving.{OldOrNew}
 use Rattle.back.specs.Steps.{MayEnter, has_room, logged, metadata_with, rolled, with_entry}
 use Rattle.back.proofs.EntryLemmas.{entered_new, entered_old, entry_read}
+use Rattle.back.proofs.RunLemmas.{taken_counted}
 use Rattle.back.proofs.SyncLemmas.{half_is, none_apart, torn_of}
 
 pub halves_apart : (layout : Layout) (pending : List (ℕ × ℕ)) → pending ≡ [] → HalvesApart layout pending
@@ -44,6 +47,12 @@ torn_by : (layout other : Layout) (half half' : ℕ) (old new : List ℕ) → la
 torn_by layout other half half' old new a b torn =
     subst (λ (l : Layout). Torn (half_of l half').at l.manifest old new) a
     (subst (λ (h : ℕ). Torn (half_of layout h).at layout.manifest old new) b torn)
+
+-- four bytes still count each run
+entry_counted : (most : ℕ) (m : Metadata) (entry : Entry) → MayCome most (Some m) entry → AreCounted m.taken → AreCounted (metadata_with m entry).taken
+entry_counted most m (base n) may are = absurd may
+entry_counted most m (create store) may are = taken_counted m.taken store.id are
+entry_counted most m (drop number id) may are = taken_counted m.taken number are
 
 module _ {D : Type 0} (g : Ghosts D) (old : D) (layout : Layout) (log : Ring) (manifest : Manifest) (loaded : Loaded)
     (rest : AtRest g old layout log manifest loaded) where
@@ -86,6 +95,7 @@ module _ {D : Type 0} (g : Ghosts D) (old : D) (layout : Layout) (log : Ring) (m
       says = logged_image (g.seen new) batch is torn
           (holds_by manifest'.layout manifest.layout manifest'.half manifest.half manifest'.sequence manifest.sequence manifest'.tail.place
           (manifest.tail.place + need_of batch) (g.seen new) (metadata_with loaded.metadata entry) step.layout step.half step.sequence step.tail holds);
+      counted = entry_counted loaded.layout.stores loaded.metadata entry may.comes rest.counted;
       still = none;
       home = record {
         layout_is = rest.home.layout_is;
@@ -151,6 +161,7 @@ module _ {D : Type 0} (g : Ghosts D) (old : D) (layout : Layout) (log : Ring) (m
       says = rolled_image (g.seen new) batch is torn
           (holds_by manifest'.layout manifest.layout manifest'.half (1 - manifest.half) manifest'.sequence (manifest.sequence + 1) manifest'.tail.place
           (head_size - 1 + need_of batch) (g.seen new) (metadata_with loaded.metadata entry) step.layout step.half step.sequence step.tail holds);
+      counted = entry_counted loaded.layout.stores loaded.metadata entry may.comes rest.counted;
       still = none;
       home = record {
         layout_is = rest.home.layout_is;

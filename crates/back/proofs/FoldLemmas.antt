@@ -20,7 +20,7 @@ use Rattle.hse_rows.specs.states.State.{Contents, Store, State, applied_all, con
 use Rattle.hse_rows.specs.laws.Holding.{applied_all-stores, written_all}
 use Rattle.manifest.specs.Metadata.{LiveStore, with_taken, without}
 use Rattle.manifest.specs.Text.{Entry, base, create, drop, base_text, entry_text}
-use Rattle.recovery.specs.Image.{IsLoaded, Loaded}
+use Rattle.recovery.specs.Image.{IsLoaded, Loaded, HasNoGap, NamesKnown, prefixes_of}
 use Rattle.recovery.specs.Stored.{state_of, store_in, write_in, writes_in}
 use Rattle.wal.specs.Logged.{entry_of, logged, logged_all}
 use Rattle.wal.specs.Numbering.{free_from}
@@ -29,9 +29,9 @@ use Rattle.wal.specs.declared.commit.Commit.{Commit}
 use Rattle.back.specs.Events.{event_of, events_of}
 use Rattle.recovery.specs.Machine.{manifest_of}
 use Rattle.back.proofs.NamedLemmas.{next_unnamed}
-use Rattle.back.specs.Steps.{MayEnter, has_room, last_number, logged as with_logged, metadata_with, rolled, with_commits, with_entry}
+use Rattle.back.specs.Steps.{MayCommitAny, MayEnter, has_room, last_number, logged as with_logged, metadata_with, rolled, with_commits, with_entry}
 use Rattle.back.proofs.CommitLemmas.{last_behind}
-use Rattle.back.proofs.LogLemmas.{behind_log, next_is}
+use Rattle.back.proofs.LogLemmas.{behind_log, names_more, next_is}
 use Rattle.back.proofs.NumberLemmas.{now_taken}
 use Rattle.back.proofs.StoreLemmas.{numbers_more}
 
@@ -131,26 +131,49 @@ either false loaded other f same = sym same
 entered_state : (loaded : Loaded) (entry : Entry) → state_of (with_entry loaded entry) ≡ state_of (with_logged loaded entry)
 entered_state loaded entry = either (has_room loaded entry) (with_logged loaded entry) (rolled loaded entry) state_of refl
 
-number_entered : (image : List ℕ) (loaded : Loaded) (number : ℕ) → IsLoaded image loaded → number ≡ last_number loaded + 1
+-- What an entry needs of what it comes behind: the next number is free, no taken one is behind it, and no commit names it.
+pub record HasNext (loaded : Loaded) : Type 0 where
+  pub next : last_number loaded + 1 ≡ free_from loaded.log.next (numbers_of loaded.metadata.taken)
+  pub full : HasNoGap loaded.metadata loaded.log
+  pub named : NamesKnown loaded.metadata loaded.log
+
+-- so it is behind what is loaded of an image, and commits that may come
+pub has_next : (image : List ℕ) (loaded : Loaded) (entries : List log.Entry) → IsLoaded image loaded → MayCommitAny loaded entries
+    → HasNext (with_commits loaded entries)
+has_next image loaded [] says may = record {
+  next = next_is loaded.layout image loaded.metadata loaded.log says.log says.full
+      ∙ ap (λ (n : ℕ). free_from n (numbers_of loaded.metadata.taken)) (sym says.log.next);
+  full = says.full;
+  named = says.named;
+}
+has_next image loaded (entry ∷ entries) says may =
+    let next = next_is loaded.layout image loaded.metadata loaded.log says.log says.full in
+    let last = last_behind (prefixes_of loaded.metadata.stores) (loaded.metadata.horizon + 1) (numbers_of loaded.metadata.taken) loaded.layout.log loaded.log.entries says.log.last
+    (behind_log loaded.layout image loaded.metadata loaded.log says.log says.full)
+    (last_number loaded + length (entry ∷ entries) + 1) (omega (arith, next)) in
+    record {
+      next = omega (arith, last.free);
+      full = last.none;
+      named = names_more loaded (entry ∷ entries) last.free says.named may.known;
+    }
+
+number_entered : (loaded : Loaded) (number : ℕ) → HasNext loaded → number ≡ last_number loaded + 1
     → free_from loaded.log.next (numbers_of (with_taken loaded.metadata.taken number)) - 1 ≡ last_number loaded + 1
-number_entered image loaded number says next =
-    let free : number ≡ free_from loaded.log.next (numbers_of loaded.metadata.taken) =
-    next ∙ next_is loaded.layout image loaded.metadata loaded.log says.log says.full
-    ∙ ap (λ (n : ℕ). free_from n (numbers_of loaded.metadata.taken)) (sym says.log.next) in
+number_entered loaded number has next =
     let one : free_from loaded.log.next (numbers_of (with_taken loaded.metadata.taken number)) ≡ number + 1 =
     ap (free_from loaded.log.next) (numbers_more loaded.metadata.taken number)
-    ∙ (now_taken loaded.log.next number (numbers_of loaded.metadata.taken) says.full free).free in
+    ∙ (now_taken loaded.log.next number (numbers_of loaded.metadata.taken) has.full (next ∙ has.next)).free in
     omega (arith, one, next)
 
-pub number_with : (image : List ℕ) (loaded : Loaded) (entry : Entry) → IsLoaded image loaded → MayEnter loaded entry
+pub number_with : (loaded : Loaded) (entry : Entry) → HasNext loaded → MayEnter loaded entry
     → last_number (with_entry loaded entry) ≡ last_number loaded + 1
-number_with image loaded (base m) says may = absurd may.comes
-number_with image loaded (create store) says may =
+number_with loaded (base m) has may = absurd may.comes
+number_with loaded (create store) has may =
     either (has_room loaded (create store)) (with_logged loaded (create store)) (rolled loaded (create store)) last_number refl
-    ∙ number_entered image loaded store.id says may.next
-number_with image loaded (drop number id) says may =
+    ∙ number_entered loaded store.id has may.next
+number_with loaded (drop number id) has may =
     either (has_room loaded (drop number id)) (with_logged loaded (drop number id)) (rolled loaded (drop number id)) last_number refl
-    ∙ number_entered image loaded number says may.next
+    ∙ number_entered loaded number has may.next
 
 -- writes of other stores change nothing of a store
 unwritten : (id : ℕ) (contents : Contents) (changes : List log.Change) → AllByRecursion (λ (c : log.Change). c.store ≢ id) changes
@@ -188,16 +211,16 @@ one_store : (entries : List log.Entry) (stores : List LiveStore) (store : LiveSt
 one_store entries [] store = refl
 one_store entries (first ∷ stores) store = ap (λ (l : List Store). store_in entries first ∷ l) (one_store entries stores store)
 
-pub creation_happens : (image : List ℕ) (loaded : Loaded) (store : LiveStore) → IsLoaded image loaded → MayEnter loaded (create store)
+pub creation_happens : (loaded : Loaded) (store : LiveStore) → HasNext loaded → MayEnter loaded (create store)
     → state_of (with_entry loaded (create store)) ≡ happened (state_of loaded) (creates store.name store.mode store.prefix_length)
-creation_happens image loaded store says may =
-    let number = number_entered image loaded store.id says may.next in
+creation_happens loaded store has may =
+    let number = number_entered loaded store.id has may.next in
     let stores : map (store_in loaded.log.entries) (loaded.metadata.stores ++ store ∷ [])
     ≡ map (store_in loaded.log.entries) loaded.metadata.stores ++ new_store (last_number loaded + 1) store.name store.mode store.prefix_length ∷ [] =
     one_store loaded.log.entries loaded.metadata.stores store
     ∙ ap (λ (s : Store). map (store_in loaded.log.entries) loaded.metadata.stores ++ s ∷ [])
     (holds_nothing loaded.log.entries store (last_number loaded + 1) may.next
-    (next_unnamed (last_number loaded) store.id loaded.log.entries may.next says.named)) in
+    (next_unnamed (last_number loaded) store.id loaded.log.entries may.next has.named)) in
     entered_state loaded (create store) ∙ (λ i. record { number = number i; stores = stores i })
 
 kept_by : (gone : Bool) (entries : List log.Entry) (store : LiveStore) (stores : List LiveStore) (others : List Store) → map (store_in entries) stores ≡ others
@@ -211,10 +234,10 @@ stores_without id entries [] = refl
 stores_without id entries (store ∷ stores) =
     kept_by (store.id == id) entries store (without id stores) (history.without id (map (store_in entries) stores)) (stores_without id entries stores)
 
-pub drop_happens : (image : List ℕ) (loaded : Loaded) (number id : ℕ) → IsLoaded image loaded → MayEnter loaded (drop number id)
+pub drop_happens : (loaded : Loaded) (number id : ℕ) → HasNext loaded → MayEnter loaded (drop number id)
     → state_of (with_entry loaded (drop number id)) ≡ happened (state_of loaded) (drops id)
-drop_happens image loaded number id says may =
-    let count = number_entered image loaded number says may.next in
+drop_happens loaded number id has may =
+    let count = number_entered loaded number has may.next in
     entered_state loaded (drop number id)
     ∙ (λ i. record { number = count i; stores = stores_without id loaded.log.entries loaded.metadata.stores i })
 

@@ -11,6 +11,7 @@ pub mod TurnLemmas
 pub mod FoldLemmas
 pub mod PlanLemmas
 pub mod RunLemmas
+pub mod FewLemmas
 pub mod LiveLemmas
 pub mod BaseLemmas
 pub mod CountLemmas

@@ -2,13 +2,13 @@
 use Rattle.std.proofs.Common.{◌≡◌, ◌∙◌, ℕ, ◌+◌, ◌-◌, ◌*◌, ◌^◌, ◌<◌, ◌≤◌, ◌==◌, ◌||◌, Bool, true, false, List, [], ◌∷◌, ◌++◌, length, refl, sym, subst, arith, cond, append_assoc, length-append}
 use Rattle.std.specs.Prelude.{nat_lt, nat_le, ◌&&◌, not}
 use Rattle.std.specs.List.{flat_map, list_any}
-use Rattle.std.proofs.lemmas.Bool.{and_parts, and_from, cases_eq, leb-true, lt-ltb, le-leb, ltb-true}
+use Rattle.std.proofs.lemmas.Bool.{and_parts, and_from, cases_eq, eqb-true, leb-true, lt-ltb, le-leb, ltb-true}
 use Rattle.std.proofs.lemmas.List.{append-nil}
 use Rattle.byteorder.specs.Endian.{big_bytes}
 use Rattle.byteorder.specs.Numbers.{length-bytes_high_first}
 use Rattle.hse_rows.specs.machine.TakenRuns.{NumberRun}
 use Rattle.manifest.specs.MayCome.{AreStores, IsDescribed}
-use Rattle.manifest.specs.Metadata.{LiveStore, has_id, is_named, is_taken, is_used, last_by, last_id, with_taken, without}
+use Rattle.manifest.specs.Metadata.{LiveStore, has_id, is_live, is_named, is_taken, is_used, last_by, last_id, with_taken, without}
 use Rattle.manifest.specs.Reading.{may_be_next}
 use Rattle.manifest.specs.Text.{described_text, mode_code, store_text}
 use Rattle.back.specs.Bases.{AreKnown}
@@ -177,6 +177,15 @@ stores_known most horizon number runs known (store ∷ stores) low up are =
     let within : store.id ≤ number =
     or_true (nat_le store.id horizon) (is_taken store.id runs) (store.id ≤ number) next.is_known (λ le. omega (arith, leb-true _ _ le, low)) (up store.id) in
     ((within, are.2.short), stores_known most horizon number runs (known ++ store ∷ []) stores low up are.3)
+
+-- a live store's id has eight bytes
+pub live_fits : (most horizon : ℕ) (runs : List NumberRun) (known stores : List LiveStore) (id : ℕ) → AreStores most horizon runs known stores
+    → is_live id stores ≡ true → id < 2 ^ 64
+live_fits most horizon runs known [] id are live = absurd cc
+live_fits most horizon runs known (store ∷ stores) id are live =
+    or_true (has_id id store) (is_live id stores) (id < 2 ^ 64) live
+    (λ here. omega (arith, are.1, eqb-true store.id id here))
+    (λ there. live_fits most horizon runs (known ++ store ∷ []) stores id are.3 there)
 
 -- ids rise
 rising_last : (most horizon low : ℕ) (runs : List NumberRun) (known stores : List LiveStore) → AreStores most horizon runs known stores

@@ -1,5 +1,7 @@
 -- What is loaded of a device may be a base, and so what an entry leaves, also behind commits.
-use Rattle.std.proofs.Common.{◌≡◌, ◌∙◌, ℕ, ◌+◌, ◌-◌, ◌*◌, ◌^◌, ◌<◌, ◌≤◌, true, List, [], ◌∷◌, ◌++◌, length, Some, refl, sym, ap, subst, arith}
+use Rattle.std.proofs.Common.{◌≡◌, ◌∙◌, ℕ, ◌+◌, ◌-◌, ◌*◌, ◌^◌, ◌<◌, ◌≤◌, true, List, [], ◌∷◌, ◌++◌, length, Some, refl, sym, ap, subst, arith, inl, inr}
+use Rattle.std.specs.Prelude.{nat_le, nat_lt}
+use Rattle.std.proofs.lemmas.Bool.{and_from, le-leb, lt-ltb}
 use Rattle.std.proofs.lemmas.List.{length-append, length-take}
 use Rattle.hse_fields.specs.LogText as log
 use Rattle.gate_log.specs.Places.{region_of, tail_of}
@@ -7,9 +9,9 @@ use Rattle.gate_log.specs.Gates.{first_gate, open_part}
 use Rattle.gate_log.specs.laws.Spelling.{length-open_part}
 use Rattle.device_layout.specs.Layouts.{half_of}
 use Rattle.hse_rows.specs.machine.ManifestRoom.{creation_bytes, drop_bytes}
-use Rattle.hse_rows.specs.machine.TakenRuns.{NumberRun, numbers_of}
-use Rattle.manifest.specs.MayCome.{MayBeBase, MayCome, MayCreate, MayDrop}
-use Rattle.manifest.specs.Metadata.{LiveStore, Metadata, is_taken, last_by, last_known, last_of_run, with_store, with_taken, without_store}
+use Rattle.hse_rows.specs.machine.TakenRuns.{NumberRun, numbers_of, runs_of}
+use Rattle.manifest.specs.MayCome.{IsDescribed, MayBeBase, MayCome, MayCreate, MayDrop}
+use Rattle.manifest.specs.Metadata.{LiveStore, Metadata, greatest_number, is_live, is_taken, may_be_number, last_by, last_known, last_of_run, with_store, with_taken, without_store}
 use Rattle.manifest.specs.Text.{Entry, base, create, drop, base_text, entry_text}
 use Rattle.manifest.specs.laws.Sizes.{base_length_of, creation_length, drop_length}
 use Rattle.media_disk.specs.Content.{part}
@@ -24,16 +26,21 @@ use Rattle.back.specs.Steps.{MayCommit, MayCommitAny, MayEnter, last_number, met
 use Rattle.back.proofs.BaseLemmas.{IsLoose, IsRead, all_read, loose_created, loose_dropped}
 use Rattle.back.proofs.CommitLemmas.{Behind, next_free, next_least, room_left}
 use Rattle.back.proofs.CountLemmas.{HasFew, HasNoMore, all_below, entries_fill, has_few}
+use Rattle.back.proofs.FewLemmas.{few_as_numbers}
 use Rattle.back.proofs.FoldLemmas.{number_more}
-use Rattle.back.proofs.LiveLemmas.{stores_few, stores_known, stores_length}
+use Rattle.back.proofs.LiveLemmas.{live_fits, stores_few, stores_known, stores_length}
 use Rattle.back.proofs.LogLemmas.{behind_log, next_is}
-use Rattle.back.proofs.RunLemmas.{AreNear, are_runs, near_more, taken_count, taken_counted, taken_in, taken_near}
+use Rattle.back.proofs.RunLemmas.{AreNear, are_runs, last_in, near_more, taken_count, taken_counted, taken_in, taken_near}
 
 -- ---- what is loaded
 
 module _ (image : List ℕ) (loaded : Loaded) (says : IsLoaded image loaded) where
   pub read : IsRead loaded.layout.stores (tail_of says.manifest.payloads) loaded.metadata
   read = all_read loaded.layout.stores first_gate says.manifest.payloads loaded.metadata says.manifest.says
+
+  -- the taken numbers stand in as few runs as say them
+  pub few_taken : AreCounted loaded.metadata.taken → loaded.metadata.taken ≡ runs_of (numbers_of loaded.metadata.taken)
+  few_taken = few_as_numbers loaded.metadata.horizon true loaded.metadata.taken read.loose.runs
 
   -- the half in force has room for its batches, and for the gate behind them
   pub inside : tail_of says.manifest.payloads < loaded.layout.manifest
@@ -153,7 +160,7 @@ module _ (image : List ℕ) (loaded : Loaded) (says : IsLoaded image loaded) whe
       text_by (without_store loaded.metadata number id) (loose_dropped loaded.layout.stores loaded.metadata number id read.loose may.next)
       (taken_count loaded.metadata.taken number)
 
-  pub entered : (commits : List log.Entry) (entry : Entry) → AreCounted loaded.metadata.taken → MayCommitAny loaded commits
+  entered : (commits : List log.Entry) (entry : Entry) → AreCounted loaded.metadata.taken → MayCommitAny loaded commits
       → number_in entry ≡ last_number (with_commits loaded commits) + 1 → MayCome loaded.layout.stores (Some loaded.metadata) entry
       → MayEnter (with_commits loaded commits) entry
   entered commits entry counts may next comes =
@@ -165,6 +172,41 @@ module _ (image : List ℕ) (loaded : Loaded) (says : IsLoaded image loaded) whe
           → MayEnter (with_commits loaded commits) entry
       enter_by [] next comes base_may = record { next = next; comes = comes; base_may = base_may }
       enter_by (commit ∷ commits) next comes base_may = record { next = next; comes = comes; base_may = base_may }
+
+  -- ---- what may come next
+
+  -- the numbers that the manifest knows of are up to the last one
+  last_low : last_known loaded.metadata ≤ last_number loaded
+  last_low =
+      let least : loaded.metadata.horizon + 1 ≤ free_from says.log.last.next (numbers_of loaded.metadata.taken) =
+      next_least (prefixes_of loaded.metadata.stores) (loaded.metadata.horizon + 1) (numbers_of loaded.metadata.taken) loaded.layout.log loaded.log.entries says.log.last behind in
+      elim (last_in loaded.metadata.horizon true loaded.metadata.taken read.loose.runs) [
+        | inl is ↦ omega (arith, is, least, top_is)
+        | inr here ↦ let lt = below_top (last_known loaded.metadata) here in omega (arith, lt)
+      ]
+
+  next_number : (commits : List log.Entry) (number : ℕ) → number ≡ last_number (with_commits loaded commits) + 1 → number ≤ 2 ^ 62
+      → may_be_number loaded.metadata number ≡ true
+  next_number commits number next small =
+      and_from (nat_lt (last_known loaded.metadata) number) (nat_le number greatest_number)
+      (lt-ltb (last_known loaded.metadata) number (omega (arith, last_low, next, number_more image loaded commits says)))
+      (le-leb number greatest_number (omega (arith, small)))
+
+  pub creation_may : (commits : List log.Entry) (store : LiveStore) → AreCounted loaded.metadata.taken → MayCommitAny loaded commits
+      → store.id ≡ last_number (with_commits loaded commits) + 1 → store.id ≤ 2 ^ 62 → length loaded.metadata.stores < loaded.layout.stores
+      → IsDescribed loaded.metadata.stores store → MayEnter (with_commits loaded commits) (create store)
+  creation_may commits store counts may next small room described =
+      entered commits (create store) counts may next (record { number = next_number commits store.id next small; room = room; described = described })
+
+  pub drop_may : (commits : List log.Entry) (number id : ℕ) → AreCounted loaded.metadata.taken → MayCommitAny loaded commits
+      → number ≡ last_number (with_commits loaded commits) + 1 → number ≤ 2 ^ 62 → is_live id loaded.metadata.stores ≡ true
+      → MayEnter (with_commits loaded commits) (drop number id)
+  drop_may commits number id counts may next small live =
+      entered commits (drop number id) counts may next (record {
+        next = next_number commits number next small;
+        live = live;
+        id_fits = live_fits loaded.layout.stores loaded.metadata.horizon loaded.metadata.taken [] loaded.metadata.stores id read.loose.stores live;
+      })
 
   -- ---- stores
 

@@ -50,7 +50,7 @@ place_more : (payloads : List (List ℕ)) (payload : List ℕ) (place tail : ℕ
 place_more payloads payload place tail is behind = omega (arith, is, behind, tail_of-push payloads payload)
 
 -- the commits name no store id above the last number, which does not fall
-names_more : (loaded : Loaded) (entries : List Entry)
+pub names_more : (loaded : Loaded) (entries : List Entry)
     → free_from (last_number loaded + length entries + 1) (numbers_of loaded.metadata.taken) ≡ last_number loaded + length entries + 1
     → NamesKnown loaded.metadata loaded.log → OfEachStore (λ (store : ℕ). store ≤ last_number loaded) entries
     → NamesKnown loaded.metadata (log_with loaded.log entries (last_number loaded + length entries))

@@ -239,6 +239,18 @@ taken_in id (run ∷ runs) is =
     in_first id (counted run.first run.count) (numbers_of runs) (counted_in id run.first run.count (leb-true _ _ parts.0) (ltb-true _ _ parts.1)))
     (λ there. in_second id (counted run.first run.count) (numbers_of runs) (taken_in id runs there))
 
+-- the last one is a number of theirs, where there are some
+pub last_in : (low : ℕ) (full : Bool) (runs : List NumberRun) → AreStanding low full runs
+    → (last_by last_of_run low runs ≡ low) ⊎ IsIn (last_by last_of_run low runs) (numbers_of runs)
+last_in low full [] are = inl refl
+last_in low full (run ∷ runs) are =
+    elim (last_in (last_of_run run) (is_full run) runs are.1) [
+      | inl is ↦
+          inr (in_first (last_by last_of_run low (run ∷ runs)) (counted run.first run.count) (numbers_of runs)
+          (counted_in (last_by last_of_run low (run ∷ runs)) run.first run.count (omega (arith, is, are.0.some)) (omega (arith, is, are.0.some))))
+      | inr more ↦ inr (in_second (last_by last_of_run low (run ∷ runs)) (counted run.first run.count) (numbers_of runs) more)
+    ]
+
 -- all are above what is before them
 pub numbers_above : (n low : ℕ) (full : Bool) (runs : List NumberRun) → AreStanding low full runs → IsIn n (numbers_of runs) → low < n
 numbers_above n low full [] are here = absurd here

@@ -70,6 +70,7 @@ module _ {D : Type 0} (g : Ghosts D) (old : D) (layout : Layout) (log : Ring) (m
           says = loaded_new loaded (g.seen old) rest.says half_is (g.seen new) (torn_log (g.seen new) torn) (entry ∷ entries) may
               (subst (λ (payload : List ℕ). Gated (region_of (log_region loaded.layout) (g.seen new)) 1 (rest.says.log.payloads ++ payload ∷ [])) is
               (gated_log (g.seen new) log'.region log'.sequence (rest.says.log.payloads ++ batch ∷ []) grown.region_is grown.sequence has.gated));
+          counted = rest.counted;
           still = none;
           home = record {
             layout_is = rest.home.layout_is;

@@ -6,6 +6,7 @@ use Rattle.manifest.specs.declared.manifest.Manifest.{Manifest}
 use Rattle.recovery.specs.Image.{Loaded, IsLoaded, log_region}
 use Rattle.wal.specs.Charges.{charges}
 use Rattle.wal.specs.declared.ring.Ring.{Ring}
+use Rattle.back.specs.Bases.{AreCounted}
 
 -- These are the places of what is loaded: its layout, its log with what its commits take, and its manifest.
 pub record IsHome (layout : Layout) (log : Ring) (manifest : Manifest) (loaded : Loaded) : Type 0 where
@@ -19,8 +20,10 @@ pub record IsHome (layout : Layout) (log : Ring) (manifest : Manifest) (loaded :
   pub sequence : manifest.sequence ≡ loaded.sequence
   pub place : manifest.tail.place ≡ loaded.place
 
--- The device is loaded as this, nothing is pending on it, and these are its places.
+-- The device is loaded as this, with runs of taken numbers that four bytes count, nothing is pending on it, and these are its
+-- places.
 pub record AtRest {D : Type 0} (g : Ghosts D) (disk : D) (layout : Layout) (log : Ring) (manifest : Manifest) (loaded : Loaded) : Type 0 where
   pub says : IsLoaded (g.seen disk) loaded
+  pub counted : AreCounted loaded.metadata.taken
   pub still : g.pending disk ≡ []
   pub home : IsHome layout log manifest loaded

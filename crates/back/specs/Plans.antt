@@ -4,7 +4,7 @@ use denote.Ref.{Bor}
 use Rattle.hse_fields.specs.LogText as log
 use Rattle.gate_log.specs.Places.{need_of}
 use Rattle.gate_log.specs.declared.batch.Batch.{Batch}
-use Rattle.hse_rows.specs.machine.ManifestRoom.{ManifestState}
+use Rattle.hse_rows.specs.machine.ManifestRoom.{ManifestState, head_bytes}
 use Rattle.manifest.specs.Metadata.{Metadata}
 use Rattle.manifest.specs.Text.{Entry, base_text, entry_text}
 use Rattle.manifest.specs.Writing.{IsRollFull, room_in, room_of_half}
@@ -37,6 +37,13 @@ HasRoomFor m (Roll batch) = ¬ IsRollFull m batch
 -- the plan is that of this entry behind these metadata
 abbrev pub IsPlanOf : Manifest → Metadata → Entry → EntryPlan → Type 0
 IsPlanOf m before entry plan = IsPlan m (entry_text entry) (base_text (metadata_with before entry)) (Ok plan)
+
+-- where the manifest is behind a planned entry
+abbrev pub IsPlacedBy : Manifest → EntryPlan → Manifest → Type 0
+IsPlacedBy old (Log batch) new =
+    (new.layout ≡ old.layout) × (new.sequence ≡ old.sequence) × (new.tail.place ≡ old.tail.place + need_of batch)
+IsPlacedBy old (Roll batch) new =
+    (new.layout ≡ old.layout) × (new.sequence ≡ old.sequence + 1) × (new.tail.place + 1 ≡ head_bytes + need_of batch)
 
 -- the log has room for the commits that are given
 abbrev pub LogHasRoomFor : Ring → Option (Bor Batch) → Type 0

@@ -7,11 +7,11 @@ ghost use Rattle.hse_fields.specs.LogText.{Entry as a_commit};
 ghost use Rattle.gate_log.specs.Places.{need_of};
 ghost use Rattle.manifest.specs.Metadata.{LiveStore};
 ghost use Rattle.manifest.specs.Text.{Entry as an_entry, create, drop, base_text, entry_text};
-ghost use Rattle.manifest.specs.Writing.{room_in, IsRollFull};
+ghost use Rattle.manifest.specs.Writing.{room_in, IsLogged, IsRolled, IsRollFull};
 ghost use Rattle.recovery.specs.Image.{Loaded};
 ghost use Rattle.back.specs.Home.{AtRest};
 ghost use Rattle.back.specs.Leaving.{OldOrCommitted, OldOrEntered, OldOrNew};
-ghost use Rattle.back.specs.Plans.{HasRoomFor, IsBatchOf, IsPlanOf, LogHasRoomFor, MayTurn};
+ghost use Rattle.back.specs.Plans.{HasRoomFor, IsBatchOf, IsPlacedBy, IsPlanOf, LogHasRoomFor, MayTurn};
 ghost use Rattle.back.specs.Steps.{logged, metadata_with, rolled, with_commits, with_entry, MayCommitAny, MayEnter};
 
 use crate::{Back, EntryPlan};
@@ -51,6 +51,8 @@ impl<D: Disk> Back<D> {
         ensures cause { HasCause (D.faults self.old.disk) (D.faults self.new.disk) result }
         ensures extent { D.extent self.new.disk ≡ D.extent self.old.disk }
         ensures parts { (self.new.layout ≡ self.old.layout) × (self.new.log ≡ self.old.log) }
+        ensures placed { OnOk result
+            (IsLogged self.old.manifest self.new.manifest (need_of batch.now)) }
         ensures logged { D.tells → (loaded : Loaded) (entry : an_entry)
             → AtRest D.Device self.old.disk self.old.layout self.old.log self.old.manifest loaded
             → MayEnter loaded entry → batch.now ≡ entry_text entry
@@ -75,6 +77,8 @@ impl<D: Disk> Back<D> {
         ensures cause { HasCause (D.faults self.old.disk) (D.faults self.new.disk) result }
         ensures extent { D.extent self.new.disk ≡ D.extent self.old.disk }
         ensures parts { (self.new.layout ≡ self.old.layout) × (self.new.log ≡ self.old.log) }
+        ensures placed { OnOk result
+            (IsRolled self.old.manifest self.new.manifest (need_of base.now)) }
         ensures rolled { D.tells → (loaded : Loaded) (entry : an_entry)
             → AtRest D.Device self.old.disk self.old.layout self.old.log self.old.manifest loaded
             → MayEnter loaded entry → base.now ≡ base_text (metadata_with loaded.metadata entry)
@@ -99,6 +103,7 @@ impl<D: Disk> Back<D> {
         ensures cause { HasCause (D.faults self.old.disk) (D.faults self.new.disk) result }
         ensures extent { D.extent self.new.disk ≡ D.extent self.old.disk }
         ensures parts { (self.new.layout ≡ self.old.layout) × (self.new.log ≡ self.old.log) }
+        ensures placed { OnOk result (IsPlacedBy self.old.manifest plan.now self.new.manifest) }
         ensures entered { D.tells → (loaded : Loaded) (entry : an_entry)
             → AtRest D.Device self.old.disk self.old.layout self.old.log self.old.manifest loaded
             → MayEnter loaded entry → IsPlanOf self.old.manifest loaded.metadata entry plan.now
@@ -123,6 +128,7 @@ impl<D: Disk> Back<D> {
         ensures cause { HasCause (D.faults self.old.disk) (D.faults self.new.disk) result }
         ensures extent { D.extent self.new.disk ≡ D.extent self.old.disk }
         ensures layout { self.new.layout ≡ self.old.layout }
+        ensures placed { OnOk result (IsPlacedBy self.old.manifest plan.now self.new.manifest) }
         ensures entered { D.tells
             → (loaded : Loaded) (commits : List a_commit) (entry : an_entry)
             → AtRest D.Device self.old.disk self.old.layout self.old.log self.old.manifest loaded
@@ -142,8 +148,8 @@ impl<D: Disk> Back<D> {
 
     /// Writes the commits, where there are some, and then the planned creation, and makes both
     /// safe. It takes no memory. Whenever the device stops, it is loaded as before, or with the
-    /// commits, or with the new store as well; after `Ok` with all, and nothing is pending. It
-    /// fails only where the device did.
+    /// commits, or with the new store as well; after `Ok` with all, and nothing is pending, and the
+    /// manifest is where the plan puts it. It fails only where the device did.
     ///
     /// The conditions: the commits fit into the log's room, and the plan was made by this device
     /// side, with no device call since. What the clauses say of the device's content is for commits
@@ -155,6 +161,7 @@ impl<D: Disk> Back<D> {
         ensures cause { HasCause (D.faults self.old.disk) (D.faults self.new.disk) result }
         ensures extent { D.extent self.new.disk ≡ D.extent self.old.disk }
         ensures layout { self.new.layout ≡ self.old.layout }
+        ensures placed { OnOk result (IsPlacedBy self.old.manifest plan.now self.new.manifest) }
         ensures created { D.tells
             → (loaded : Loaded) (commits : List a_commit) (store : LiveStore)
             → AtRest D.Device self.old.disk self.old.layout self.old.log self.old.manifest loaded
@@ -173,8 +180,8 @@ impl<D: Disk> Back<D> {
 
     /// Writes the commits, where there are some, and then the planned drop, and makes both safe. It
     /// takes no memory. Whenever the device stops, it is loaded as before, or with the commits, or
-    /// without the store as well; after `Ok` with all, and nothing is pending. It fails only where
-    /// the device did.
+    /// without the store as well; after `Ok` with all, and nothing is pending, and the manifest is
+    /// where the plan puts it. It fails only where the device did.
     ///
     /// The conditions are those of `create_store`, for a drop.
     pub fn drop_store(&mut self, batch: Option<&Batch>, plan: &EntryPlan) -> Result<(), Failed>
@@ -184,6 +191,7 @@ impl<D: Disk> Back<D> {
         ensures cause { HasCause (D.faults self.old.disk) (D.faults self.new.disk) result }
         ensures extent { D.extent self.new.disk ≡ D.extent self.old.disk }
         ensures layout { self.new.layout ≡ self.old.layout }
+        ensures placed { OnOk result (IsPlacedBy self.old.manifest plan.now self.new.manifest) }
         ensures dropped { D.tells
             → (loaded : Loaded) (commits : List a_commit) (number id : ℕ)
             → AtRest D.Device self.old.disk self.old.layout self.old.log self.old.manifest loaded

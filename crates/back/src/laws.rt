@@ -5,11 +5,11 @@ ghost use Rattle.hse_fields.specs.LogText.{Entry as a_commit};
 ghost use Rattle.hse_rows.specs.machine.Core.{life};
 ghost use Rattle.hse_rows.specs.machine.Limits.{IsWithinLimits};
 ghost use Rattle.hse_rows.specs.machine.ManifestRoom.{gained, goes_into_no_half, half_room, ManifestState};
-ghost use Rattle.hse_rows.specs.machine.TakenRuns.{numbers_of};
+ghost use Rattle.hse_rows.specs.machine.TakenRuns.{numbers_of, runs_of};
 ghost use Rattle.hse_rows.specs.states.History.{commits, creates, drops, folded, happened};
 ghost use Rattle.hse_rows.specs.states.State.{IsState};
-ghost use Rattle.manifest.specs.MayCome.{MayBeBase, MayCome};
-ghost use Rattle.manifest.specs.Metadata.{LiveStore, Metadata};
+ghost use Rattle.manifest.specs.MayCome.{IsDescribed, MayBeBase, MayCome};
+ghost use Rattle.manifest.specs.Metadata.{is_live, LiveStore, Metadata};
 ghost use Rattle.manifest.specs.Text.{Entry as an_entry, create, drop, base_text, entry_text};
 ghost use Rattle.recovery.specs.Image.{IsLoaded, Loaded};
 ghost use Rattle.recovery.specs.Stored.{state_of};
@@ -22,22 +22,26 @@ ghost use Rattle.recovery.specs.Machine.{manifest_of, stored_of};
 ghost use Rattle.back.specs.Plans.{HasRoomFor, IsCounted, IsPlan};
 ghost use Rattle.back.specs.declared.plan.EntryPlan.{EntryPlan as a_plan};
 ghost use Rattle.back.specs.declared.plan.PlanFault.TheVariants.{ManifestFull};
-ghost use Rattle.back.specs.Steps.{last_number, metadata_with, number_in, with_commits, with_entry, MayCommitAny, MayEnter};
+ghost use Rattle.back.specs.Steps.{last_number, metadata_with, with_commits, with_entry, MayCommitAny, MayEnter};
 
 /// What is stored after a batch of commits is the state after them, as events behind what was
-/// stored before; and so after a creation and a drop. A commit that the log spells is the event of
-/// its writes.
+/// stored before; and so after a creation and a drop, also behind commits. A commit that the log
+/// spells is the event of its writes.
 pub fn turns_store_the_next_states()
     ensures commits { (image : List ℕ) (loaded : Loaded) (commits : List a_commit)
         → IsLoaded image loaded → state_of (with_commits loaded commits)
         ≡ folded (state_of loaded) (events_of commits) }
-    ensures creation { (image : List ℕ) (loaded : Loaded) (store : LiveStore)
-        → IsLoaded image loaded → MayEnter loaded (create store)
-        → state_of (with_entry loaded (create store)) ≡ happened (state_of loaded)
+    ensures creation { (image : List ℕ) (loaded : Loaded) (commits : List a_commit)
+        (store : LiveStore) → IsLoaded image loaded → MayCommitAny loaded commits
+        → MayEnter (with_commits loaded commits) (create store)
+        → state_of (with_entry (with_commits loaded commits) (create store))
+        ≡ happened (state_of (with_commits loaded commits))
         (creates store.name store.mode store.prefix_length) }
-    ensures drop { (image : List ℕ) (loaded : Loaded) (number id : ℕ)
-        → IsLoaded image loaded → MayEnter loaded (drop number id)
-        → state_of (with_entry loaded (drop number id)) ≡ happened (state_of loaded) (drops id) }
+    ensures drop { (image : List ℕ) (loaded : Loaded) (commits : List a_commit)
+        (number id : ℕ) → IsLoaded image loaded → MayCommitAny loaded commits
+        → MayEnter (with_commits loaded commits) (drop number id)
+        → state_of (with_entry (with_commits loaded commits) (drop number id))
+        ≡ happened (state_of (with_commits loaded commits)) (drops id) }
     ensures event { (commit : a_wal_commit)
         → event_of (entry_of commit) ≡ commits commit.writes }
 {}
@@ -47,9 +51,11 @@ pub fn turns_count_their_events()
     ensures commits { (image : List ℕ) (loaded : Loaded) (commits : List a_commit)
         → IsLoaded image loaded
         → last_number (with_commits loaded commits) ≡ last_number loaded + length commits }
-    ensures entry { (image : List ℕ) (loaded : Loaded) (entry : an_entry)
-        → IsLoaded image loaded → MayEnter loaded entry
-        → last_number (with_entry loaded entry) ≡ last_number loaded + 1 }
+    ensures entry { (image : List ℕ) (loaded : Loaded) (commits : List a_commit)
+        (entry : an_entry) → IsLoaded image loaded → MayCommitAny loaded commits
+        → MayEnter (with_commits loaded commits) entry
+        → last_number (with_entry (with_commits loaded commits) entry)
+        ≡ last_number (with_commits loaded commits) + 1 }
 {}
 
 /// After a creation and a drop the manifest has what the machine counts: its sequence, its bytes
@@ -78,19 +84,26 @@ pub fn plans_are_as_the_machine_counts()
         ≡ true) × (need ≡ need_of after) × (room ≡ half_room manifest.layout.manifest) }
 {}
 
-/// What is loaded of a device may be a base. A creation or a drop that has the next number and
-/// keeps the manifest's rules may enter, also behind commits, since what it leaves may be a base
-/// too. Entry and base have fewer than 2^32 bytes. The live stores have known ids, and prefixes of
-/// at most 32 bytes.
+/// What is loaded of a device may be a base. Behind commits that may come, a creation of the next
+/// number may enter where one more store may live and its name is free, and a drop of it where the
+/// store lives, since what they leave may be a base too. Entry and base have fewer than 2^32 bytes. The live stores have known ids, and prefixes of
+/// at most 32 bytes. The taken numbers stand in as few runs as say them.
 pub fn loaded_metadata_may_be_bases()
     ensures base { (image : List ℕ) (loaded : Loaded) → IsLoaded image loaded
         → AreCounted loaded.metadata.taken → MayBeBase loaded.layout.stores loaded.metadata }
-    ensures enters { (image : List ℕ) (loaded : Loaded) (commits : List a_commit)
-        (entry : an_entry) → IsLoaded image loaded → AreCounted loaded.metadata.taken
+    ensures creation { (image : List ℕ) (loaded : Loaded) (commits : List a_commit)
+        (store : LiveStore) → IsLoaded image loaded → AreCounted loaded.metadata.taken
         → MayCommitAny loaded commits
-        → number_in entry ≡ last_number (with_commits loaded commits) + 1
-        → MayCome loaded.layout.stores (Some loaded.metadata) entry
-        → MayEnter (with_commits loaded commits) entry }
+        → store.id ≡ last_number (with_commits loaded commits) + 1 → store.id ≤ 2 ^ 62
+        → length loaded.metadata.stores < loaded.layout.stores
+        → IsDescribed loaded.metadata.stores store
+        → MayEnter (with_commits loaded commits) (create store) }
+    ensures drop { (image : List ℕ) (loaded : Loaded) (commits : List a_commit)
+        (number id : ℕ) → IsLoaded image loaded → AreCounted loaded.metadata.taken
+        → MayCommitAny loaded commits
+        → number ≡ last_number (with_commits loaded commits) + 1 → number ≤ 2 ^ 62
+        → is_live id loaded.metadata.stores ≡ true
+        → MayEnter (with_commits loaded commits) (drop number id) }
     ensures short_base { (image : List ℕ) (loaded : Loaded) (entry : an_entry)
         → IsLoaded image loaded → MayCome loaded.layout.stores (Some loaded.metadata) entry
         → length (base_text (metadata_with loaded.metadata entry)) < 2 ^ 32 }
@@ -98,6 +111,9 @@ pub fn loaded_metadata_may_be_bases()
         → MayCome most (Some before) entry → length (entry_text entry) < 2 ^ 32 }
     ensures stores { (image : List ℕ) (loaded : Loaded) → IsLoaded image loaded
         → AreKnown (last_number loaded) loaded.metadata.stores }
+    ensures runs { (image : List ℕ) (loaded : Loaded) → IsLoaded image loaded
+        → AreCounted loaded.metadata.taken
+        → loaded.metadata.taken ≡ runs_of (numbers_of loaded.metadata.taken) }
 {}
 
 /// The life that begins at what is loaded of a device is within the limits, and its base is a state.

@@ -25,6 +25,7 @@ use Rattle.key_locks.specs.declared.locks.KeyLocks.{KeyLocks}
 use Rattle.key_locks.specs.Answers.{IsAnswer}
 use Rattle.key_locks.specs.Standing.{StandFor, Tells}
 use Rattle.key_locks.specs.laws.Laws.{LocksAnswerTheConflict}
+use Rattle.view.specs.declared.get_fault.TxnState.TheVariants.{Active}
 use Rattle.view.specs.declared.view_store.ViewStore.{ViewStore}
 use Rattle.view.specs.Views.{ViewState}
 use Rattle.view.specs.Means.{store_in}
@@ -34,7 +35,6 @@ use Rattle.transactions.specs.Stands.{StandsFor, StagesStand}
 use Rattle.engine_state.specs.declared.live.LiveTxn.{LiveTxn}
 use Rattle.engine_state.specs.declared.faults.WriteFault.{WriteFault}
 use Rattle.engine_state.specs.declared.state.EngineState.{EngineState}
-use Rattle.engine_state.specs.Kept.{IsRemembered}
 use Rattle.engine_state.specs.Serves.{IsSound, ViewServes, Serves, IsTxnOf, AreBetween, live_of}
 use Rattle.engine_state.specs.Says.{SaysWrite, Fronts}
 use Rattle.engine_state.specs.Steps.{Steps}
@@ -199,8 +199,9 @@ module _ {R : Type 0} (g : Ghosts R) where
             }));
       }
 
+  -- no commit after the snapshot of an active transaction is forgotten
   pub remembered : (state : EngineState R g) (m : Core) (kept : TxnKept R) (transaction : Transaction) → Serves g state m
-      → IsTxnOf g kept m.timeline transaction → IsRemembered state.locks kept
+      → IsTxnOf g kept m.timeline transaction → kept.state ≡ Active → state.locks.least ≤ kept.view.number
   remembered state m kept transaction s of on =
       let going : transaction.state ≡ active = is-going transaction.state (sym on ∙ of.stands.state) in
       let low : s.locks.above ≤ transaction.snapshot = low-snapshot state m kept.id transaction of.at (ap is_active going) s in

@@ -19,7 +19,6 @@ use Rattle.transactions.specs.Txns.{TxnKept, StagedState, with_staged}
 use Rattle.transactions.specs.Stages.{IsStage}
 use Rattle.engine_state.specs.declared.faults.WriteFault.{WriteFault}
 use Rattle.engine_state.specs.declared.state.EngineState.{EngineState}
-use Rattle.engine_state.specs.Kept.{IsRemembered}
 use Rattle.engine_state.specs.Serves.{Serves, IsTxnOf}
 use Rattle.engine_state.specs.Says.{SaysWrite}
 
@@ -57,9 +56,3 @@ module _ {R : Type 0} (g : Ghosts R) where
     pub named : store_named (snapshot_of m.timeline transaction) name ≡ Some store
     pub txn :
         IsTxnOf g new (done m (write_by (inside old.id) name change)).timeline (staged transaction (write_to store change))
-
-  -- An active transaction meets the condition of its writes.
-  abbrev pub AreRemembered : Type 0
-  AreRemembered =
-      (state : EngineState R g) (m : Core) (kept : TxnKept R) (transaction : Transaction)
-      → Serves g state m → IsTxnOf g kept m.timeline transaction → IsRemembered state.locks kept

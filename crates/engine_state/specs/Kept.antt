@@ -4,18 +4,11 @@ use Rattle.hse_rows.specs.declared.row_set.RowSet.{Ghosts}
 use Rattle.hse_rows.specs.declared.write.Write.{Write}
 use Rattle.hse_rows.specs.writes.Charge.{charge_of}
 use Rattle.hse_rows.specs.machine.Log as machine
-use Rattle.key_locks.specs.declared.locks.KeyLocks.{KeyLocks}
 use Rattle.view.specs.Commits.{committed}
-use Rattle.view.specs.declared.get_fault.TxnState.TheVariants.{Active}
-use Rattle.transactions.specs.Txns.{TxnKept}
 use Rattle.wal.specs.Logged.{entry_with}
 use Rattle.wal.specs.Waits.{with_entry}
 use Rattle.engine_state.specs.declared.live.LiveTxn.{LiveTxn}
 use Rattle.engine_state.specs.declared.state.EngineState.{EngineState}
-
--- A transaction that is active began when the locks had forgotten no commit after its snapshot.
-abbrev pub IsRemembered : {R : Type 0} → KeyLocks → TxnKept R → Type 0
-IsRemembered locks txn = txn.state ≡ Active → locks.least ≤ txn.view.number
 
 -- begin orders rise, from this one on
 abbrev pub AreInOrder : ℕ → List LiveTxn → Type 0

@@ -1,5 +1,4 @@
 //! Laws of the engine's state. The contract of each function is the law.
-ghost use Rattle.engine_state.specs.Inside.{AreRemembered};
 ghost use Rattle.engine_state.specs.Keeping.{CallsKeepSound, FailuresKeepSound, LivesAreSound};
 ghost use Rattle.engine_state.specs.Keeping.{NewLivesAreSound, RefusalsKeepSound, StepsKeepSound};
 ghost use Rattle.engine_state.specs.Keeping.{OtherCallsKeepTransactions, OthersKeepTransactions};
@@ -8,11 +7,6 @@ ghost use Rattle.engine_state.specs.Keeping.{TransactionsStay};
 use hse_rows::{
     Shared, calls_keep_limits, others_keep_timelines, runs_are_isolated, timelines_stand,
 };
-
-/// An active transaction of an engine meets the condition of its writes.
-pub fn transactions_are_remembered<R: Shared>()
-    ensures { AreRemembered R.RowSet }
-{}
 
 /// A life that begins within the limits, at a state, is sound, also on a device that was just
 /// formatted. Each step leads from a sound state to a sound one, where what a reopening loads is

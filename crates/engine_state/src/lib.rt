@@ -24,7 +24,7 @@ mod write;
 
 pub use cursors::CursorPlace;
 pub use faults::{BeginFault, CommitFault, CreateFault, CursorsFull, DropFault, WriteFault};
-pub use laws::{steps_keep_states_sound, transactions_are_remembered, transactions_stay};
+pub use laws::{steps_keep_states_sound, transactions_stay};
 pub use sizes::EngineSizes;
 pub use state::EngineState;
 pub use store_event::StoreEvent;

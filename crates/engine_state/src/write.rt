@@ -1,5 +1,5 @@
 //! Writes in a transaction.
-ghost use Rattle.std.specs.Prelude.{◌≡◌, ◌≤◌, IfOk, OnErr};
+ghost use Rattle.std.specs.Prelude.{◌≡◌, ◌<◌, ◌≤◌, Err, IfOk, OnErr};
 ghost use Rattle.hse_rows.specs.declared.store.Mode.TheVariants.{Tx};
 ghost use Rattle.hse_rows.specs.states.State.{Store as a_store};
 ghost use Rattle.hse_rows.specs.writes.Change.{change_of, write_of};
@@ -8,7 +8,8 @@ ghost use Rattle.hse_rows.specs.transactions.Timeline.{HasStore, snapshot_of};
 ghost use Rattle.hse_rows.specs.machine.Calls as call;
 ghost use Rattle.hse_rows.specs.machine.Core.{Core};
 ghost use Rattle.hse_rows.specs.machine.Replies as answer;
-ghost use Rattle.engine_state.specs.Kept.{IsRemembered};
+ghost use Rattle.view.specs.declared.get_fault.TxnState.TheVariants as ended;
+ghost use Rattle.engine_state.specs.declared.faults.WriteFault.TheVariants as fault;
 ghost use Rattle.engine_state.specs.Serves.{IsSound, Serves, IsTxnOf};
 ghost use Rattle.engine_state.specs.Says.{SaysWrite, Fronts};
 ghost use Rattle.engine_state.specs.Steps.{Steps};
@@ -134,7 +135,8 @@ impl<R: Shared> EngineState<R> {
     /// first begun of them, and `Since` where commits after the snapshot have one, with the first of
     /// them: the first of these that is so. After a fault engine and transaction are as before.
     ///
-    /// The condition: the transaction was made by this engine since its opening.
+    /// An active transaction over a snapshot whose later commits are forgotten is none of this engine's,
+    /// and is taken as one that was aborted. Of the engine's own there is none.
     pub fn write(
         &mut self,
         alloc: Global,
@@ -142,7 +144,6 @@ impl<R: Shared> EngineState<R> {
         store: &StoreName,
         change: ChangeRef<'_>,
     ) -> Result<(), WriteFault>
-        requires { IsRemembered self.old.locks txn.old }
         ensures step { (m : Core) (transaction : Transaction) → IsSound m → Serves R.RowSet self.old m
             → IsTxnOf R.RowSet txn.old m.timeline transaction
             → Steps R.RowSet (λ _. answer.accepted) SaysWrite m
@@ -151,9 +152,16 @@ impl<R: Shared> EngineState<R> {
             → IsTxnOf R.RowSet txn.old m.timeline transaction
             → IfOk result (λ _. IsWritten R.RowSet m (change_of change.entry) store.now transaction txn.old txn.new) }
         ensures same { OnErr result (txn.new ≡ txn.old) }
+        ensures forgotten { txn.old.state ≡ ended.Active → txn.old.view.number < self.old.locks.least
+            → (result ≡ Err (fault.NotActive ended.Aborted)) × (self.new ≡ self.old) }
     {
         match txn.state() {
-            TxnState::Active => self.write_active(alloc, txn, store, change),
+            TxnState::Active => {
+                if !self.locks.remembers(txn.snapshot()) {
+                    return Err(WriteFault::NotActive(TxnState::Aborted));
+                }
+                self.write_active(alloc, txn, store, change)
+            }
             TxnState::Committed => Err(WriteFault::NotActive(TxnState::Committed)),
             TxnState::Aborted => Err(WriteFault::NotActive(TxnState::Aborted)),
         }

@@ -1,5 +1,5 @@
 //! Commits that are forgotten, and changes that are taken back.
-ghost use Rattle.std.specs.Prelude.{◌≡◌, ◌==◌, ◌-◌, ◌+◌, ◌<◌, ◌≤◌, ℕ, cond, length, max, take};
+ghost use Rattle.std.specs.Prelude.{◌≡◌, ◌==◌, ◌-◌, ◌+◌, ◌<◌, ◌≤◌, ℕ, cond, length, max, nat_le, take};
 ghost use Rattle.hse_rows.specs.declared.write.Write.{Write as a_write};
 ghost use Rattle.key_locks.specs.Locks.{commits_of, spare_of, writes_of};
 ghost use Rattle.key_locks.specs.Logged.{without_old};
@@ -9,6 +9,14 @@ use crate::locks::KeyLocks;
 use crate::moves::{forget, undo_names};
 
 impl KeyLocks {
+    /// Whether a snapshot is at least the greatest number pruned to, so that no commit after it was
+    /// forgotten: what `try_lock` asks of a snapshot. It takes no memory.
+    pub fn remembers(&self, snapshot: u64) -> bool
+        ensures { result ≡ nat_le self.now.least snapshot }
+    {
+        self.least <= snapshot
+    }
+
     /// Forgets the first commits up to a number. Where their numbers rise these are all up to it.
     /// Later snapshots are at least this number. It takes no memory.
     pub fn prune(&mut self, least: u64)

@@ -1,10 +1,11 @@
 -- What the end of a turn leads to.
 use Rattle.std.specs.List.{AllByRecursion}
-use Rattle.std.proofs.Common.{◌≡◌, ℕ, zero, suc, ◌+◌, ◌-◌, ◌≤◌, false, List, [], ◌∷◌, ◌++◌, length, take, drop, refl, sym, ◌∙◌, ap, subst, arith, append_assoc}
+use Rattle.std.proofs.Common.{◌≡◌, ◌⊎◌, ⊎_elim, ℕ, zero, suc, ◌+◌, ◌-◌, ◌≤◌, false, List, [], ◌∷◌, ◌++◌, length, take, drop, refl, sym, ◌∙◌, ap, subst, arith, append_assoc}
 use Rattle.std.proofs.lemmas.List.{take-append-drop, length-drop, length-take-le}
 use Rattle.std.proofs.Math.Seq.{drop-nil}
 use Rattle.hse_rows.specs.states.History.{Event, fold, events_since}
 use Rattle.hse_rows.specs.states.Rooted.{AreUpTo}
+use Rattle.hse_rows.specs.laws.Folding.{folded-number}
 use Rattle.hse_rows.specs.rows.Layout.{Layout}
 use Rattle.hse_rows.specs.machine.Log.{Numbered}
 use Rattle.hse_rows.specs.machine.ManifestRoom.{ManifestState}
@@ -14,7 +15,7 @@ use Rattle.hse_rows.specs.machine.Recorded.{commits_in, taken_in}
 use Rattle.engine_state.specs.Serves.{handed}
 use Rattle.kvdb.specs.Found.{Entered, entered_at, entered_with, events_to, stored_at}
 use Rattle.kvdb.specs.Pending.{IsLoggable, IsPending, CommitsName, unsafe_events}
-use Rattle.kvdb.specs.laws.Events.{commits_in-append, taken_in-append, commits_in-below, up_to-more}
+use Rattle.kvdb.specs.laws.Events.{commits_in-append, taken_in-append, commits_in-below, entered_taken, none_taken, up_to-more}
 use Rattle.kvdb.specs.laws.Growth.{stored_same}
 
 pub all-append : {A : Type 0} (P : A → Type 0) (xs ys : List A) → AllByRecursion P xs → AllByRecursion P ys → AllByRecursion P (xs ++ ys)
@@ -25,9 +26,17 @@ all-right : {A : Type 0} (P : A → Type 0) (xs ys : List A) → AllByRecursion 
 all-right P [] ys all = all
 all-right P (x ∷ xs) ys all = all-right P xs ys all.1
 
-none-right : (xs ys : List ℕ) → xs ++ ys ≡ [] → ys ≡ []
-none-right [] ys none = none
-none-right (x ∷ xs) ys none = absurd cc
+-- two lists that together have no number, or one that the second has not
+none-parts : (xs ys : List ℕ) → xs ++ ys ≡ [] → (xs ≡ []) × (ys ≡ [])
+none-parts [] ys none = (refl, none)
+none-parts (x ∷ xs) ys none = absurd cc
+
+one-parts : (number : ℕ) (xs ys : List ℕ) → (ys ≡ number ∷ [] → ⊥) → xs ++ ys ≡ number ∷ [] → (xs ≡ number ∷ []) × (ys ≡ [])
+one-parts number [] ys other one = absurd (other one)
+one-parts number (x ∷ xs) ys other one =
+    let first : x ≡ number = cc in
+    let rest : xs ++ ys ≡ [] = cc in
+    (ap (λ (n : ℕ). n ∷ xs) first ∙ ap (λ (l : List ℕ). number ∷ l) (none-parts xs ys rest).0, (none-parts xs ys rest).1)
 
 drop-zero : {A : Type 0} (xs : List A) → drop 0 xs ≡ xs
 drop-zero [] = refl
@@ -74,9 +83,41 @@ module _ (m : Core) (number : ℕ) (from : m.timeline.base.number ≤ m.safe) (l
       ∙ ap (λ (n : ℕ). taken_in (m.safe + 1) (events_to m number) ++ taken_in n (events_since m.timeline.base m.timeline.history number))
       (let e : m.safe + 1 + length (events_to m number) ≡ number + 1 = omega (arith, first, low) in e)
 
+  safe_number : (fold m.timeline.base m.timeline.history m.safe).number ≡ m.safe
+  safe_number =
+      folded-number m.timeline.base (take (m.safe - m.timeline.base.number) m.timeline.history)
+      ∙ (let some : length (take (m.safe - m.timeline.base.number) m.timeline.history) ≡ m.safe - m.timeline.base.number =
+      length-take-le (m.safe - m.timeline.base.number) m.timeline.history (omega (arith, low, high)) in
+      let e : m.timeline.base.number + length (take (m.safe - m.timeline.base.number) m.timeline.history) ≡ m.safe = omega (arith, some, from) in e)
+
+  -- the numbers that the manifest has taken with the entries up to it
+  pub taken_at : (entered_at m number).manifest.taken ≡ m.manifest.taken ++ taken_in (m.safe + 1) (events_to m number)
+  taken_at =
+      entered_taken m.sizes (fold m.timeline.base m.timeline.history m.safe) (record { manifest = m.manifest; layout = m.layout }) (events_to m number)
+      ∙ ap (λ (n : ℕ). m.manifest.taken ++ taken_in (n + 1) (events_to m number)) safe_number
+
+  -- where no creation or drop is due but one of this number, none is above it
+  pub due_parts : (numbers : List ℕ) → ((numbers ≡ []) ⊎ (numbers ≡ number ∷ [])) → taken_in (m.safe + 1) (unsafe_events m) ≡ numbers
+      → (taken_in (m.safe + 1) (events_to m number) ≡ numbers) × (taken_in (number + 1) (events_since m.timeline.base m.timeline.history number) ≡ [])
+  due_parts numbers which are =
+      ⊎_elim
+      (λ none.
+      let p = none-parts first_taken last_taken (sym taken-split ∙ are ∙ none) in (p.0 ∙ sym none, p.1))
+      (λ one.
+      let p = one-parts number first_taken last_taken
+      (none_taken number (number + 1) (events_since m.timeline.base m.timeline.history number) [] (omega arith))
+      (sym taken-split ∙ are ∙ one) in (p.0 ∙ sym one, p.1))
+      which
+    where
+      first_taken : List ℕ
+      first_taken = taken_in (m.safe + 1) (events_to m number)
+
+      last_taken : List ℕ
+      last_taken = taken_in (number + 1) (events_since m.timeline.base m.timeline.history number)
+
   -- what waits behind it
   pub pending_ended : (manifest : ManifestState) (layout : Layout) (used : ℕ) → IsPending m → handed m ≡ number
-      → (m.is_broken ≡ false → taken_in (m.safe + 1) (unsafe_events m) ≡ []) → IsPending (settled_at m number manifest layout used)
+      → (m.is_broken ≡ false → taken_in (number + 1) (events_since m.timeline.base m.timeline.history number) ≡ []) → IsPending (settled_at m number manifest layout used)
   pending_ended manifest layout used p handed_is none = record {
     settled = p.settled ++ commits_in (m.safe + 1) (events_to m number);
     below = all-append (λ (commit : Numbered). commit.number ≤ number) p.settled (commits_in (m.safe + 1) (events_to m number))
@@ -85,8 +126,7 @@ module _ (m : Core) (number : ℕ) (from : m.timeline.base.number ≤ m.safe) (l
     active = p.active ∙ ap (λ (l : List Numbered). p.settled ++ l) commits-split
         ∙ sym (append_assoc p.settled (commits_in (m.safe + 1) (events_to m number))
         (commits_in (number + 1) (events_since m.timeline.base m.timeline.history number)));
-    due = λ whole. none-right (taken_in (m.safe + 1) (events_to m number)) (taken_in (number + 1) (events_since m.timeline.base m.timeline.history number))
-        (sym taken-split ∙ none whole);
+    due = none;
     waiting = all-right (IsLoggable m.sizes (now m).stores) (commits_in (m.safe + 1) (events_to m number))
         (commits_in (number + 1) (events_since m.timeline.base m.timeline.history number))
         (subst (AllByRecursion (IsLoggable m.sizes (now m).stores)) commits-split p.waiting);

@@ -1,4 +1,7 @@
+mod CarryLemmas
 mod EndLemmas
+mod EnteredLemmas
+mod EventLemmas
 mod FormLemmas
 mod HistoryLemmas
 mod InsideLemmas
@@ -8,11 +11,14 @@ mod ListingLemmas
 mod NewLemmas
 mod OpeningLemmas
 mod ReopenLemmas
+mod RoomLemmas
 mod RunLemmas
 mod ServesLemmas
 mod SessionLemmas
 mod StateLemmas
 mod StoreLemmas
 mod SyncLemmas
+mod TakeLemmas
+mod TakenLemmas
 mod TurnLemmas
 mod WritableLemmas

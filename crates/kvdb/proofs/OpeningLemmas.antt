@@ -12,11 +12,12 @@ use Rattle.hse_fields.specs.LogText.{Entry}
 use Rattle.hse_fields.specs.LogReading.{Follow}
 use Rattle.hse_rows.specs.states.History.{Event, fold, folded, events_since}
 use Rattle.hse_rows.specs.writes.Lengths.{longest_prefix}
-use Rattle.manifest.specs.Metadata.{LiveStore}
+use Rattle.manifest.specs.Metadata.{LiveStore, Metadata}
+use Rattle.manifest.specs.declared.base.Base.{Base}
 use Rattle.hse_rows.specs.machine.Log.{Numbered}
 use Rattle.hse_rows.specs.machine.Core.{Stored, life, now}
 use Rattle.hse_rows.specs.machine.Recorded.{commits_in, taken_in, CommitsUpTo}
-use Rattle.hse_rows.specs.machine.TakenRuns.{numbers_of}
+use Rattle.hse_rows.specs.machine.TakenRuns.{numbers_of, runs_as, runs_of}
 use Rattle.device_layout.specs.Layouts.{IsGood, params_of, size_of_device, sizes_of}
 use Rattle.device_layout.specs.declared.layout.Layout.{Layout}
 use Rattle.manifest.specs.declared.manifest.Manifest.{Manifest}
@@ -48,13 +49,15 @@ use Rattle.recovery.specs.Layer.{layer_after, layer_with}
 use Rattle.recovery.specs.Machine.{numbered_of, stored_of}
 use Rattle.recovery.specs.Stored.{store_in, write_in}
 use Rattle.back.specs.Home.{AtRest}
+use Rattle.back.specs.Bases.{AreCounted}
+use Rattle.back.specs.laws.Counted.{are_counted}
 use Rattle.back.specs.declared.back.Back.{Back}
 use Rattle.engine_state.specs.Serves as state
 use Rattle.engine_state.specs.Serves.{AreOfStores, IsOpened, SizesServe}
 use Rattle.engine_state.specs.declared.sizes.EngineSizes.{EngineSizes}
 use Rattle.kvdb.specs.Found.{Entered, entered_at, entered_with, events_to, stored_at}
 use Rattle.kvdb.specs.Pending.{CommitsName, IsKnown, IsLoggable, IsPending}
-use Rattle.kvdb.specs.Serves.{of_sets, Serves}
+use Rattle.kvdb.specs.Serves.{of_sets, Serves, StartServes}
 use Rattle.kvdb.specs.declared.engine.Kvdb.{Kvdb}
 use Rattle.kvdb.specs.declared.side.Side.TheVariants as side
 use Rattle.kvdb.proofs.TurnLemmas.{side_home}
@@ -203,7 +206,11 @@ module _ (image : List ℕ) (loaded : Loaded) (r : Recovered) (is : IsLoaded ima
   }
 
 module _ {D : Type 0} (g : Ghosts D) (image : List ℕ) (db : Kvdb D g) (back : Back D g) (loaded : Loaded) (r : Recovered) (is : IsLoaded image loaded)
-    (finds : Finds loaded r) (known : StoresKnown loaded) where
+    (finds : Finds loaded r) (known : StoresKnown loaded) (few : AreCounted loaded.metadata.taken → loaded.metadata.taken ≡ runs_of (numbers_of loaded.metadata.taken)) where
+  -- the runs of a value that was read
+  counted : AreCounted loaded.metadata.taken
+  counted = subst AreCounted (ap (λ (x : Metadata). x.taken) finds.metadata) (are_counted r.base.taken.items)
+
   -- the device side has the parts that were found
   pub record HasFound : Type 0 where
     pub layout : back.layout ≡ r.layout
@@ -215,6 +222,7 @@ module _ {D : Type 0} (g : Ghosts D) (image : List ℕ) (db : Kvdb D g) (back : 
   rests : HasFound → g.tells → AtRest g back.disk back.layout back.log back.manifest loaded
   rests has told = record {
     says = subst (λ (bytes : List ℕ). IsLoaded bytes loaded) (sym (has.seen told)) is;
+    counted = counted;
     still = has.still told;
     home = record {
       layout_is = has.layout ∙ finds.layout;
@@ -229,16 +237,35 @@ module _ {D : Type 0} (g : Ghosts D) (image : List ℕ) (db : Kvdb D g) (back : 
     };
   }
 
-  pub serves_opened : HasFound → db.side ≡ side.In back → state.Serves of_sets db.state (life (stored_of loaded))
+  -- the engine keeps what the base says beside its stores
+  pub record HasStart (base : Base) : Type 0 where
+    pub horizon : db.log_start.horizon ≡ base.horizon
+    pub first : db.log_start.first ≡ base.first
+    pub taken : db.log_start.taken ≡ base.taken
+
+  start_opened : HasStart r.base → StartServes db.log_start (life (stored_of loaded))
+  start_opened has = record {
+    horizon = has.horizon ∙ ap (λ (x : Metadata). x.horizon) finds.metadata;
+    first = has.first ∙ ap (λ (x : Metadata). x.first_segment) finds.metadata;
+    taken = λ whole.
+        ap (λ v. runs_as v.items) has.taken
+        ∙ ap (λ (x : Metadata). x.taken) finds.metadata
+        ∙ few counted
+        ∙ ap runs_of (sym (append-nil (numbers_of loaded.metadata.taken)));
+  }
+
+  pub serves_opened : HasFound → HasStart r.base → db.side ≡ side.In back → state.Serves of_sets db.state (life (stored_of loaded))
       → db.sequence ≡ r.manifest.sequence → db.free ≡ r.layout.slots → Serves g db (life (stored_of loaded))
-  serves_opened has side_is above sequence free =
+  serves_opened has start side_is above sequence free =
       let below = commits_loaded image loaded is in
       record {
         state = above;
         pending = pending_life (stored_of loaded) below (stores-known (number_of loaded.metadata loaded.log) loaded.log.entries loaded.metadata.stores known);
+        start = start_opened start;
         manifest = sequence ∙ finds.manifest.sequence;
         free = let e : db.free ≡ loaded.layout.slots = free ∙ ap (λ (l : Layout). l.slots) finds.layout in omega (arith, e);
         frozen = refl;
+        layout = refl;
         jobs = refl;
         side = side_home g db.side back (life (stored_of loaded)) side_is (record {
           turn = refl;

@@ -29,12 +29,13 @@ use Rattle.recovery.specs.Machine.{stored_of}
 use Rattle.back.specs.declared.back.Back.{Back}
 use Rattle.kvdb.specs.Found.{StoresFrom, stored_at}
 use Rattle.kvdb.specs.Reopening.{last_by, last_left, IsNoted, Reborn, StaysAfter}
-use Rattle.kvdb.specs.Serves.{of_sets, RestsAt, IsHome, IsOut, Serves}
+use Rattle.kvdb.specs.Serves.{of_sets, RestsAt, IsHome, IsOut, Serves, StartServes}
 use Rattle.kvdb.specs.Sides.{kind_as}
 use Rattle.kvdb.specs.declared.side.TurnKind.{TurnKind}
 use Rattle.kvdb.specs.declared.side.Side.TheVariants as side
-use Rattle.kvdb.proofs.TurnLemmas.{pending_failed, side_home}
+use Rattle.kvdb.proofs.TurnLemmas.{pending_failed, side_home, start_broken}
 use Rattle.kvdb.specs.declared.engine.Kvdb.{Kvdb}
+use Rattle.kvdb.specs.declared.log_start.LogStart.{LogStart}
 use Rattle.kvdb.proofs.RunLemmas.{from_rest}
 
 -- no image is loaded in two ways
@@ -111,6 +112,7 @@ module _ {D : Type 0} (g : Ghosts D) (m : Core) (from : m.timeline.base.number �
       loaded = r.loaded;
       rests = record {
         says = subst (λ (bytes : List ℕ). IsLoaded bytes r.loaded) (sym (keeps.seen told)) r.rests.says;
+        counted = r.rests.counted;
         still = keeps.still told r.rests.still;
         home = record {
           layout_is = layout ∙ r.rests.home.layout_is;
@@ -166,14 +168,16 @@ module _ {D : Type 0} (g : Ghosts D) (m : Core) (from : m.timeline.base.number �
   module _ (no_refusal : NeverRefused) (no_version : NeverOther) (then : Back D g) (layout : then.layout ≡ back.layout)
       (log : then.log ≡ back.log) (manifest : then.manifest ≡ back.manifest) (keeps : Keeps g back.disk then.disk)
       (engine new : Kvdb D g) (s : Serves g engine m) (side_is : new.side ≡ side.In then) (sequence : new.sequence ≡ engine.sequence)
-      (free : new.free ≡ engine.free) where
+      (free : new.free ≡ engine.free) (start : new.log_start ≡ engine.log_start) where
     pub serves_kept : state.Serves of_sets new.state m → Serves g new m
     serves_kept above = record {
       state = above;
       pending = s.pending;
+      start = subst (λ (x : LogStart). StartServes x m) (sym start) s.start;
       manifest = sequence ∙ s.manifest;
       free = free ∙ s.free;
       frozen = s.frozen;
+      layout = s.layout;
       jobs = s.jobs;
       side = side_home g new.side then m side_is (home_kept then layout log manifest keeps);
     }
@@ -183,9 +187,11 @@ module _ {D : Type 0} (g : Ghosts D) (m : Core) (from : m.timeline.base.number �
     serves_broken above = record {
       state = above (handed m);
       pending = pending_failed m s.pending;
+      start = start_broken engine.log_start new.log_start m (record m { is_broken = true }) start refl refl s.start;
       manifest = sequence ∙ s.manifest;
       free = free ∙ s.free;
       frozen = s.frozen;
+      layout = s.layout;
       jobs = s.jobs;
       side = side_home g new.side then (record m { is_broken = true }) side_is (home_failed then layout log manifest keeps);
     }

@@ -90,7 +90,7 @@ module _ (m : Core) (pending : IsPending m) (low : m.timeline.base.number ≤ m.
   events-all =
       ap (λ (n : ℕ). take n (unsafe_events m)) (sym long) ∙ take-length (unsafe_events m)
 
-  entered-safe : entered_at m m.safe ≡ record { manifest = m.manifest; layout = m.layout }
+  pub entered-safe : entered_at m m.safe ≡ record { manifest = m.manifest; layout = m.layout }
   entered-safe =
       ap (λ (n : ℕ). entered_with m.sizes (fold m.timeline.base m.timeline.history m.safe)
       (record { manifest = m.manifest; layout = m.layout }) (take n (unsafe_events m)))

@@ -1,14 +1,17 @@
 -- What stands where a turn is taken and where it ends.
 use Rattle.std.specs.Prelude.{Ok}
-use Rattle.std.proofs.Common.{◌≡◌, ℕ, ◌+◌, ◌≤◌, Bool, true, false, List, [], ◌∷◌, Option, Some, None, refl, sym, ◌∙◌, ap, subst, arith}
+use Rattle.std.proofs.Common.{◌≡◌, ◌⊎◌, inl, inr, ℕ, ◌+◌, ◌-◌, ◌≤◌, Bool, true, false, List, [], ◌∷◌, ◌++◌, length, Option, Some, None, refl, sym, ◌∙◌, ap, subst, arith}
+use Rattle.std.proofs.lemmas.List.{append-nil, length-drop}
 use Rattle.media_disk.specs.declared.device.Device.{Ghosts}
 use Rattle.hse_rows.specs.declared.row_set.RowSet as rows
-use Rattle.hse_rows.specs.machine.Log.{Numbered}
-use Rattle.hse_rows.specs.machine.Turn.{TakenTurn, Plan, Turn as machine_turn, home, taken, ran, written, syncing, settles, sync}
+use Rattle.hse_rows.specs.states.History.{Event, events_since}
+use Rattle.hse_rows.specs.machine.TakenRuns.{runs_as, runs_of}
+use Rattle.hse_rows.specs.machine.Log.{LogState, Numbered}
+use Rattle.hse_rows.specs.machine.Turn.{TakenTurn, Plan, Turn as machine_turn, home, taken, ran, written, syncing, settles, enters, removes, installs, sync}
 use Rattle.hse_rows.specs.machine.Calls.{write_turn}
 use Rattle.hse_rows.specs.machine.ManifestRoom.{ManifestState}
 use Rattle.hse_rows.specs.rows.Layout.{Layout}
-use Rattle.hse_rows.specs.machine.Core.{Core, Stored, number_of}
+use Rattle.hse_rows.specs.machine.Core.{Core, Stored, number_of, blocks_in, layout_but}
 use Rattle.hse_rows.specs.machine.Recorded.{commits_in, taken_in, due, due_by}
 use Rattle.hse_rows.specs.machine.Replies.{broken, ok}
 use Rattle.hse_rows.specs.machine.CoreRefusal.{refuse, unless_busy, unless_run_well}
@@ -21,17 +24,20 @@ use Rattle.device_layout.specs.Layouts.{IsGood}
 use Rattle.engine_state.specs.Serves.{IsSound, ServesAbove, handed, handed_by, entries_of}
 use Rattle.engine_state.specs.Turns.{IsBatch, Hands}
 use Rattle.engine_state.specs.declared.state.EngineState.{EngineState}
+use Rattle.manifest.specs.declared.manifest.Manifest.{Manifest}
 use Rattle.back.specs.declared.back.Back.{Back}
-use Rattle.kvdb.specs.Found.{Entered, entered_at, stored_at, StoresFrom}
+use Rattle.back.specs.declared.plan.EntryPlan.{EntryPlan}
+use Rattle.kvdb.specs.Found.{Entered, entered_at, events_to, stored_at, StoresFrom}
 use Rattle.kvdb.specs.Pending.{IsPending, unsafe_events}
-use Rattle.kvdb.specs.Serves.{of_sets, IsHome, IsOut, SideIs, Serves}
+use Rattle.kvdb.specs.Serves.{of_sets, IsHome, IsOut, SideIs, Serves, StartServes}
 use Rattle.kvdb.specs.Sides.{kind_as}
 use Rattle.kvdb.specs.Taking.{Took}
-use Rattle.kvdb.specs.Turns.{entered_after, IsBatchOf, IsPlanOf, LeadsTo, RanOf}
+use Rattle.kvdb.specs.Turns.{entered_after, Carries, IsBatchOf, IsIdle, IsPlanOf, LeadsTo, RanOf}
+use Rattle.kvdb.specs.declared.log_start.LogStart.{LogStart}
 use Rattle.kvdb.specs.declared.turn.Turn.{Turn}
 use Rattle.kvdb.specs.declared.engine.Kvdb.{Kvdb}
 use Rattle.kvdb.specs.declared.turn.Ran.{Ran}
-use Rattle.kvdb.proofs.EndLemmas.{settled_at, pending_ended, stored_ended}
+use Rattle.kvdb.proofs.EndLemmas.{settled_at, due_parts, pending_ended, stored_ended, taken_at}
 use Rattle.kvdb.specs.laws.Written.{above_turn, pending_taken}
 use Rattle.kvdb.specs.declared.side.Side.{Side}
 use Rattle.kvdb.specs.declared.side.Side.TheVariants as side
@@ -59,9 +65,9 @@ out_side {D = D} g s what number m is at = subst (λ (x : Side D g). SideIs g x 
 -- ---- the state in memory sees neither the turn nor the manifest
 
 -- a broken engine gives no batch
-pub above_broken : {R : Type 0} (g : rows.Ghosts R) (state : EngineState R g) (m : Core) (turn : machine_turn) (handed later : ℕ) → m.is_broken ≡ true
-    → ServesAbove g state m handed → ServesAbove g state (record m { turn = turn }) later
-above_broken g state m turn handed later failed s = record {
+pub above_broken : {R : Type 0} (g : rows.Ghosts R) (state : EngineState R g) (m : Core) (turn : machine_turn) (later : ℕ) → m.is_broken ≡ true
+    → ServesAbove g state (record m { is_broken = true }) later → ServesAbove g state (record m { turn = turn }) later
+above_broken g state m turn later failed s = record {
   view = record { state = s.view.state; stores = s.view.stores };
   locks = s.locks;
   live = s.live;
@@ -69,7 +75,7 @@ above_broken g state m turn handed later failed s = record {
   charge = s.charge;
   waits = λ whole. absurd cc;
   safe = s.safe;
-  is_broken = s.is_broken;
+  is_broken = s.is_broken ∙ sym failed;
   cursors = s.cursors;
   sizes = s.sizes;
 }
@@ -141,18 +147,28 @@ pending_failed m p = record {
   written_named = p.written_named;
 }
 
+-- what a broken engine keeps of the log's start
+pub start_broken : (start new : LogStart) (m then : Core) → new ≡ start → then.log ≡ m.log → then.is_broken ≡ true → StartServes start m → StartServes new then
+start_broken start new m then same log failed s = record {
+  horizon = ap (λ (x : LogStart). x.horizon) same ∙ s.horizon ∙ sym (ap (λ (x : LogState). x.horizon) log);
+  first = ap (λ (x : LogStart). x.first) same ∙ s.first ∙ sym (ap (λ (x : LogState). x.first_segment) log);
+  taken = λ whole. absurd cc;
+}
+
 pub serves_marked : {D : Type 0} (g : Ghosts D) (engine new : Kvdb D g) (m : Core) (out : TakenTurn) (what : TurnKind) (number : ℕ)
     → m.turn ≡ taken out → Serves g engine m
     → ((later : ℕ) → ServesAbove of_sets new.state (record m { is_broken = true }) later)
     → engine.side ≡ side.Out what number → new.side ≡ engine.side → new.sequence ≡ engine.sequence → new.free ≡ engine.free
-    → Serves g new (failing m write_turn)
-serves_marked g engine new m out what number phase s above out_is side_is sequence free = record {
+    → new.log_start ≡ engine.log_start → Serves g new (failing m write_turn)
+serves_marked g engine new m out what number phase s above out_is side_is sequence free start = record {
   state = above_turn of_sets new.state (record m { is_broken = true }) (written m.turn true) (handed (failing m write_turn))
       (above (handed (failing m write_turn)));
   pending = pending_broken (record m { is_broken = true }) (written m.turn true) refl (pending_failed m s.pending);
+  start = start_broken engine.log_start new.log_start m (failing m write_turn) start refl refl s.start;
   manifest = sequence ∙ s.manifest;
   free = free ∙ s.free;
   frozen = s.frozen;
+  layout = s.layout;
   jobs = s.jobs;
   side = side_out g new.side what number (failing m write_turn) (side_is ∙ out_is)
       (subst (IsOut what number) (sym (ap (λ (t : machine_turn). written t true) phase))
@@ -185,54 +201,130 @@ above_settled g state m number manifest layout used handed s = record {
   sizes = s.sizes;
 }
 
--- the plan of a sync
-sync_plan : (what : TurnKind) (plan : Plan) → IsPlanOf what plan → plan ≡ settles
-sync_plan kind.Sync plan is = is
-sync_plan kind.Freeze plan is = absurd is
-sync_plan kind.Install plan is = absurd is
-sync_plan kind.Create plan is = absurd is
-sync_plan kind.Drop plan is = absurd is
+-- ---- plans
+
+-- a plan of a turn of these kinds is no install
+abbrev IsNoInstall : Plan → Type 0
+IsNoInstall settles = Unit {0}
+IsNoInstall (enters manifest) = Unit {0}
+IsNoInstall (removes id manifest) = Unit {0}
+IsNoInstall (installs id work new manifest) = ⊥
+
+no_install : (what : TurnKind) (plan : Plan) → IsPlanOf what plan → IsNoInstall plan
+no_install kind.Sync plan is = subst IsNoInstall (sym is) tt
+no_install kind.Freeze plan is = absurd is
+no_install kind.Install plan is = absurd is
+no_install kind.Create plan is = subst IsNoInstall (sym is.1) tt
+no_install kind.Drop plan is = subst IsNoInstall (sym is.2) tt
+
+due_is : (number : ℕ) (plan : Plan) → IsNoInstall plan → (due_by number plan ≡ []) ⊎ (due_by number plan ≡ number ∷ [])
+due_is number settles is = inl refl
+due_is number (enters manifest) is = inr refl
+due_is number (removes id manifest) is = inr refl
+due_is number (installs id work new manifest) is = absurd is
+
+-- the slots in use after it
+abbrev used_after : Core → Plan → ℕ
+used_after m settles = m.used_slots
+used_after m (enters manifest) = m.used_slots
+used_after m (removes id manifest) = m.used_slots - (blocks_in m.layout - blocks_in (layout_but m.layout id))
+used_after m (installs id work new manifest) = m.used_slots
+
+used_same : (m : Core) (plan : Plan) → IsNoInstall plan → m.layout ≡ [] → used_after m plan ≡ m.used_slots
+used_same m settles is none = refl
+used_same m (enters manifest) is none = refl
+used_same m (removes id manifest) is none = let nothing : blocks_in m.layout ≡ 0 = ap blocks_in none in omega (arith, nothing)
+used_same m (installs id work new manifest) is none = absurd is
+
+layout_none : (m : Core) (plan : Plan) → IsNoInstall plan → m.layout ≡ [] → (entered_after m plan).layout ≡ []
+layout_none m settles is none = none
+layout_none m (enters manifest) is none = none
+layout_none m (removes id manifest) is none = ap (λ (l : Layout). layout_but l id) none
+layout_none m (installs id work new manifest) is none = absurd is
+
+-- the state after the end of a turn of this plan
+abbrev ended_by : Core → ℕ → Plan → Core
+ended_by m number plan = settled_at m number (entered_after m plan).manifest (entered_after m plan).layout (used_after m plan)
+
+module _ {D : Type 0} (g : Ghosts D) (new : Kvdb D g) (m : Core) where
+  ended_is : (number : ℕ) (plan : Plan) → IsNoInstall plan → Serves g new (ended_by m number plan) → Serves g new (brought_home (planned m number plan))
+  ended_is number settles is serves = serves
+  ended_is number (enters manifest) is serves = serves
+  ended_is number (removes id manifest) is serves = serves
+  ended_is number (installs id work sets manifest) is serves = absurd is
+
+  given_is : (plan : Plan) → IsNoInstall plan → Serves g new (record m { turn = home }) → Serves g new (brought_home (given_up m plan))
+  given_is settles is serves = serves
+  given_is (enters manifest) is serves = serves
+  given_is (removes id manifest) is serves = serves
+  given_is (installs id work sets manifest) is serves = absurd is
+
+number_is_for : (out : TakenTurn) (plan : Plan) → IsNoInstall plan → number_for out plan ≡ out.number
+number_is_for out settles is = refl
+number_is_for out (enters manifest) is = refl
+number_is_for out (removes id manifest) is = refl
+number_is_for out (installs id work new manifest) is = absurd is
+
+-- ---- the end of a turn
 
 module _ {D : Type 0} (g : Ghosts D) (engine new : Kvdb D g) (done : Ran D g) (m : Core) (s : Serves g engine m) (r : RanOf g done m)
-    (from : m.timeline.base.number ≤ m.safe) (home_is : new.side ≡ side.In done.back) where
-  plan_is : r.out.plan ≡ settles
-  plan_is = sync_plan done.kind r.out.plan r.of.plan
+    (from : m.timeline.base.number ≤ m.safe) (home_is : new.side ≡ side.In done.back) (start_is : new.log_start ≡ engine.log_start) where
+  plan_is : IsNoInstall r.out.plan
+  plan_is = no_install done.kind r.out.plan r.of.plan
 
-  after_is : entered_after m r.out.plan ≡ record { manifest = m.manifest; layout = m.layout }
-  after_is = ap (entered_after m) plan_is
+  number_is : r.out.number ≡ done.number
+  number_is = r.of.is.number_is
 
-  none_due : m.is_broken ≡ false → taken_in (m.safe + 1) (unsafe_events m) ≡ []
-  none_due whole =
-      s.pending.due whole ∙ ap due r.phase ∙ ap (due_by r.out.number) plan_is
+  due_out : due m.turn ≡ due_by done.number r.out.plan
+  due_out = ap due r.phase ∙ ap (λ (n : ℕ). due_by n r.out.plan) number_is
+
+  parts : m.is_broken ≡ false
+      → (taken_in (m.safe + 1) (events_to m done.number) ≡ due_by done.number r.out.plan)
+      × (taken_in (done.number + 1) (events_since m.timeline.base m.timeline.history done.number) ≡ [])
+  parts whole =
+      due_parts m done.number from r.of.low r.of.high (due_by done.number r.out.plan) (due_is done.number r.out.plan plan_is)
+      (s.pending.due whole ∙ due_out)
+
+  start_ended : StartServes new.log_start (ended_by m done.number r.out.plan)
+  start_ended = record {
+    horizon = ap (λ (x : LogStart). x.horizon) start_is ∙ s.start.horizon;
+    first = ap (λ (x : LogStart). x.first) start_is ∙ s.start.first;
+    taken = λ whole.
+        ap (λ (x : LogStart). runs_as x.taken.items) start_is
+        ∙ s.start.taken whole
+        ∙ ap (λ (l : List ℕ). runs_of (m.manifest.taken ++ l)) (due_out ∙ sym (parts whole).0)
+        ∙ ap runs_of (sym (taken_at m done.number from r.of.low r.of.high))
+        ∙ ap (λ (e : Entered). runs_of e.manifest.taken) r.of.entered
+        ∙ ap runs_of (sym (append-nil (entered_after m r.out.plan).manifest.taken));
+  }
 
   -- an engine whose turn ended well
   pub serves_ended : done.has_failed ≡ false
       → ServesAbove of_sets new.state (record m { safe = done.number }) (handed m)
       → new.sequence ≡ done.back.manifest.sequence → new.free ≡ engine.free
-      → Serves g new (settled_at m done.number m.manifest m.layout m.used_slots)
+      → Serves g new (ended_by m done.number r.out.plan)
   serves_ended fine above sequence free = record {
-    state = above_settled of_sets new.state m done.number m.manifest m.layout m.used_slots done.number
+    state = above_settled of_sets new.state m done.number (entered_after m r.out.plan).manifest (entered_after m r.out.plan).layout
+        (used_after m r.out.plan) done.number
         (subst (ServesAbove of_sets new.state (record m { safe = done.number })) handed_is above);
-    pending = pending_ended m done.number from r.of.low r.of.high m.manifest m.layout m.used_slots s.pending handed_is none_due;
-    manifest = sequence ∙ (r.placed fine).sequence ∙ ap (λ (e : Entered). e.manifest.sequence) after_is;
-    free = free ∙ s.free;
+    pending = pending_ended m done.number from r.of.low r.of.high (entered_after m r.out.plan).manifest (entered_after m r.out.plan).layout
+        (used_after m r.out.plan) s.pending handed_is (λ whole. (parts whole).1);
+    start = start_ended;
+    manifest = sequence ∙ (r.placed fine).sequence;
+    free = free ∙ s.free ∙ ap (λ (n : ℕ). m.sizes.slots - n) (sym (used_same m r.out.plan plan_is s.layout));
     frozen = s.frozen;
+    layout = layout_none m r.out.plan plan_is s.layout;
     jobs = s.jobs;
-    side = side_home g new.side done.back (settled_at m done.number m.manifest m.layout m.used_slots) home_is (record {
+    side = side_home g new.side done.back (ended_by m done.number r.out.plan) home_is (record {
       turn = refl;
-      placed = λ whole.
-          let p = r.placed fine in
-          record {
-            sizes_are = p.sizes_are;
-            sequence = p.sequence ∙ ap (λ (e : Entered). e.manifest.sequence) after_is;
-            used = p.used ∙ ap (λ (e : Entered). e.manifest.used) after_is;
-          };
+      placed = λ whole. let p = r.placed fine in record { sizes_are = p.sizes_are; sequence = p.sequence; used = p.used };
       settled = λ whole told.
           let at = r.settled fine told in
           record {
             loaded = at.loaded;
             rests = at.rests;
-            same = at.same ∙ stored_ended m done.number from r.of.low r.of.high m.manifest m.layout m.used_slots (r.of.entered ∙ after_is);
+            same = at.same ∙ stored_ended m done.number from r.of.low r.of.high (entered_after m r.out.plan).manifest
+                (entered_after m r.out.plan).layout (used_after m r.out.plan) r.of.entered;
           };
       broken = λ failed_is. absurd (let e : m.is_broken ≡ done.has_failed = r.broken in cc);
     });
@@ -242,37 +334,43 @@ module _ {D : Type 0} (g : Ghosts D) (engine new : Kvdb D g) (done : Ran D g) (m
       handed_is = ap (handed_by m.safe) r.phase ∙ r.of.is.number_is
 
   -- and one whose turn failed
-  pub serves_failed : done.has_failed ≡ true → ServesAbove of_sets new.state m (handed m) → new.sequence ≡ engine.sequence
-      → new.free ≡ engine.free → Serves g new (record m { turn = home })
+  pub serves_failed : done.has_failed ≡ true
+      → ((later : ℕ) → ServesAbove of_sets new.state (record m { is_broken = true }) later)
+      → new.sequence ≡ engine.sequence → new.free ≡ engine.free → Serves g new (record m { turn = home })
   serves_failed failed above sequence free = record {
-    state = above_broken of_sets new.state m home (handed m) m.safe (r.broken ∙ failed) above;
-    pending = pending_broken m home (r.broken ∙ failed) s.pending;
+    state = above_broken of_sets new.state m home m.safe failed_is (above m.safe);
+    pending = pending_broken m home failed_is s.pending;
+    start = start_broken engine.log_start new.log_start m (record m { turn = home }) start_is refl failed_is s.start;
     manifest = sequence ∙ s.manifest;
     free = free ∙ s.free;
     frozen = s.frozen;
+    layout = s.layout;
     jobs = s.jobs;
     side = side_home g new.side done.back (record m { turn = home }) home_is (record {
       turn = refl;
-      placed = λ whole. absurd (let e : m.is_broken ≡ true = r.broken ∙ failed in cc);
-      settled = λ whole. absurd (let e : m.is_broken ≡ true = r.broken ∙ failed in cc);
-      broken = λ failed_is told image left. same_from (r.failed failed told image left);
+      placed = λ whole. absurd (let e : m.is_broken ≡ true = failed_is in cc);
+      settled = λ whole. absurd (let e : m.is_broken ≡ true = failed_is in cc);
+      broken = λ broken_is told image left. same_from (r.failed failed told image left);
     });
   }
     where
+      failed_is : m.is_broken ≡ true
+      failed_is = r.broken ∙ failed
+
       same_from : {image : List ℕ} → StoresFrom m (number_of m) image → StoresFrom (record m { turn = home }) (number_of m) image
       same_from from = record { number = from.number; reaches = from.reaches; within = from.within; stored = record { loaded = from.stored.loaded; is = from.stored.is; same = from.stored.same } }
 
 -- the machine's answers
 module _ {D : Type 0} (g : Ghosts D) (new : Kvdb D g) (done : Ran D g) (m : Core) (r : RanOf g done m) where
-  pub ended_as : done.has_failed ≡ false → Serves g new (settled_at m done.number m.manifest m.layout m.used_slots)
+  pub ended_as : done.has_failed ≡ false → Serves g new (ended_by m done.number r.out.plan)
       → (unless_run_well m.turn ≡ None) × (end_reply m.turn ≡ ok done.number) × Serves g new (ending m m.turn)
   ended_as fine serves =
       subst (λ (t : machine_turn). (unless_run_well t ≡ None) × (end_reply t ≡ ok done.number) × Serves g new (ending m t))
       (sym (r.phase ∙ ap (ran r.out) fine)) (
         refl,
-        ap (λ (p : Plan). ok (number_for r.out p)) (sync_plan done.kind r.out.plan r.of.plan) ∙ ap ok r.of.is.number_is,
-        subst (λ (p : Plan). Serves g new (brought_home (planned m r.out.number p))) (sym (sync_plan done.kind r.out.plan r.of.plan))
-            (subst (λ (n : ℕ). Serves g new (settled_at m n m.manifest m.layout m.used_slots)) (sym r.of.is.number_is) serves),
+        ap ok (number_is_for r.out r.out.plan (no_install done.kind r.out.plan r.of.plan)) ∙ ap ok r.of.is.number_is,
+        ended_is g new m r.out.number r.out.plan (no_install done.kind r.out.plan r.of.plan)
+            (subst (λ (n : ℕ). Serves g new (ended_by m n r.out.plan)) (sym r.of.is.number_is) serves),
       )
 
   pub failed_as : done.has_failed ≡ true → Serves g new (record m { turn = home })
@@ -280,9 +378,30 @@ module _ {D : Type 0} (g : Ghosts D) (new : Kvdb D g) (done : Ran D g) (m : Core
   failed_as failed serves =
       subst (λ (t : machine_turn). (unless_run_well t ≡ Some broken) × Serves g new (ending_failed m t))
       (sym (r.phase ∙ ap (ran r.out) failed))
-      (refl, subst (λ (p : Plan). Serves g new (brought_home (given_up m p))) (sym (sync_plan done.kind r.out.plan r.of.plan)) serves)
+      (refl, given_is g new m r.out.plan (no_install done.kind r.out.plan r.of.plan) serves)
 
 -- ---- a sync is taken
+
+carries_sync : (m : Core) (what : TurnKind) (number : ℕ) (manifest : Manifest) (batch : Option (List ℕ)) (plan : Option EntryPlan) (loaded : Loaded)
+    → what ≡ kind.Sync → plan ≡ None → LeadsTo m number batch loaded → Carries m what number manifest batch plan loaded
+carries_sync m what number manifest batch plan loaded is none leads =
+    subst (λ (k : TurnKind). Carries m k number manifest batch plan loaded) (sym is) (none, leads)
+
+-- where commits wait the machine's sync calls the device
+sync_calls : (m : Core) (batch : Option (List ℕ)) (plan : Option EntryPlan) → plan ≡ None → IsBatch m.timeline m.safe batch
+    → IsIdle batch plan ⊎ (has_pending m ≡ true)
+sync_calls m None plan none is = inl (refl, none)
+sync_calls m (Some bytes) plan none is = inr (by (has_pending m) refl)
+  where
+    nothing : (events : List Event) → length events ≡ 0 → commits_in (m.safe + 1) events ≡ []
+    nothing [] long = refl
+    nothing (event ∷ events) long = absurd cc
+
+    by : (b : Bool) → has_pending m ≡ b → has_pending m ≡ true
+    by true is_so = is_so
+    by false is_so =
+        let low : number_of m ≤ m.safe = grind (arith, is_so) in
+        absurd (is.0 (nothing (unsafe_events m) (omega (arith, low, length-drop (m.safe - m.timeline.base.number) m.timeline.history))))
 
 module _ {D : Type 0} (g : Ghosts D) (engine new : Kvdb D g) (m : Core) (turn : Turn D g) (batch : Option (List ℕ)) (law : CommitsArePayload)
     (sound : IsSound m) (s : Serves g engine m) (whole : m.is_broken ≡ false) (home_is : IsHome g turn.back m)
@@ -294,18 +413,26 @@ module _ {D : Type 0} (g : Ghosts D) (engine new : Kvdb D g) (m : Core) (turn : 
   none_waits = s.pending.due whole ∙ ap due home_is.turn
 
   pub took_sync : Hands of_sets m (handed m) (Ok batch) new.state → new.side ≡ side.Out turn.kind turn.number
-      → turn.kind ≡ kind.Sync → turn.batch ≡ batch → new.sequence ≡ engine.sequence → new.free ≡ engine.free
-      → Took g m sync turn new
-  took_sync hands side_is kind_is batch_same sequence free = record {
+      → turn.kind ≡ kind.Sync → turn.batch ≡ batch → turn.plan ≡ None → new.sequence ≡ engine.sequence → new.free ≡ engine.free
+      → new.log_start ≡ engine.log_start → Took g m sync turn new
+  took_sync hands side_is kind_is batch_same plan_none sequence free start_is = record {
     unrefused = ap (λ (b : Bool). refuse b broken (unless_busy m.turn None)) whole ∙ ap (λ (t : machine_turn). unless_busy t None) home_is.turn;
     serves = record {
       state = above_turn of_sets new.state m (taken sync_turn) (number_of m) hands.1;
       pending = pending_taken m (taken sync_turn) (sym (ap due home_is.turn))
           (let was : handed m ≡ m.safe = ap (handed_by m.safe) home_is.turn in
           let e : handed m ≤ number_of m = omega (arith, was, sound.limits.until_now) in e) s.pending;
+      start = record {
+        horizon = ap (λ (x : LogStart). x.horizon) start_is ∙ s.start.horizon;
+        first = ap (λ (x : LogStart). x.first) start_is ∙ s.start.first;
+        taken = λ fine.
+            ap (λ (x : LogStart). runs_as x.taken.items) start_is ∙ s.start.taken fine
+            ∙ ap (λ (t : machine_turn). runs_of (m.manifest.taken ++ due t)) home_is.turn;
+      };
       manifest = sequence ∙ s.manifest;
       free = free ∙ s.free;
       frozen = s.frozen;
+      layout = s.layout;
       jobs = s.jobs;
       side = side_out g new.side turn.kind turn.number (taking m sync) side_is
           (record { kind = sym (ap kind_as kind_is); number_is = sym number_is });
@@ -322,16 +449,21 @@ module _ {D : Type 0} (g : Ghosts D) (engine new : Kvdb D g) (m : Core) (turn : 
       };
       whole = whole;
       placed = home_is.placed whole;
+      put = plan_none;
+      calls = sync_calls m turn.batch turn.plan plan_none
+          (subst (IsBatch m.timeline m.safe) (sym batch_same)
+          (subst (λ (n : ℕ). IsBatch m.timeline n batch) (ap (handed_by m.safe) home_is.turn) hands.0));
       ready = λ told.
           let at = home_is.settled whole told in
           record {
             loaded = at.loaded;
             rests = at.rests;
             same = at.same;
-            carries = subst (λ (b : Option (List ℕ)). LeadsTo (taking m sync) turn.number b at.loaded) (sym batch_same)
+            carries = carries_sync (taking m sync) turn.kind turn.number turn.back.manifest turn.batch turn.plan at.loaded kind_is plan_none
+                (subst (λ (b : Option (List ℕ)). LeadsTo (taking m sync) turn.number b at.loaded) (sym batch_same)
                 (sync_carries law m (taking m sync) turn.number batch at.loaded (ap (stored_at m) (sym number_is)) sound s.pending whole home_is.turn
                 at.rests.says.full at.rests.says.layout.good at.same
-                (subst (λ (n : ℕ). IsBatch m.timeline n batch) (ap (handed_by m.safe) home_is.turn) hands.0));
+                (subst (λ (n : ℕ). IsBatch m.timeline n batch) (ap (handed_by m.safe) home_is.turn) hands.0)));
           };
     };
   }

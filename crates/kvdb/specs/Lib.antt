@@ -7,6 +7,7 @@ pub mod Room
 pub mod Turns
 pub mod Says
 pub mod Steps
+pub mod Entering
 pub mod Taking
 pub mod Ending
 pub mod Figures

@@ -1,5 +1,5 @@
 -- Which states of the machine an engine and its device stand for.
-use Rattle.std.specs.Prelude.{◌≡◌, ℕ, ◌+◌, true, false, List, []}
+use Rattle.std.specs.Prelude.{◌≡◌, ℕ, ◌+◌, true, false, List, [], ◌++◌}
 use Rattle.media_disk.specs.declared.device.Device.{Ghosts}
 use Rattle.media_disk.specs.Images.{MayLeave}
 use Rattle.device_layout.specs.Layouts.{params_of, sizes_of}
@@ -7,6 +7,8 @@ use Rattle.hse_rows.specs.machine.Sizes.{Sizes}
 use Rattle.hse_rows.specs.machine.ManifestRoom.{ManifestState}
 use Rattle.hse_rows.specs.machine.Turn.{TakenTurn, Turn, home, taken, ran}
 use Rattle.hse_rows.specs.machine.Core.{Core, Stored, number_of, free_slots}
+use Rattle.hse_rows.specs.machine.Recorded.{due}
+use Rattle.hse_rows.specs.machine.TakenRuns.{runs_as, runs_of}
 use Rattle.hse_rows.specs.declared.row_set.RowSet as rows
 use Rattle.kvset.specs.Reading.{Contents}
 use Rattle.kvset.specs.Parts.{contents_rows}
@@ -16,6 +18,7 @@ use Rattle.engine_state.specs.Serves as state
 use Rattle.back.specs.Home.{AtRest}
 use Rattle.back.specs.declared.back.Back.{Back}
 use Rattle.kvdb.specs.declared.engine.Kvdb.{Kvdb}
+use Rattle.kvdb.specs.declared.log_start.LogStart.{LogStart}
 use Rattle.kvdb.specs.declared.side.TurnKind.{TurnKind}
 use Rattle.kvdb.specs.declared.side.Side.{Side}
 use Rattle.kvdb.specs.declared.side.Side.TheVariants as side
@@ -64,6 +67,15 @@ abbrev pub SideIs : {D : Type 0} (g : Ghosts D) → Side D g → Core → Type 0
 SideIs g (side.In back) m = IsHome g back m
 SideIs g (side.Out what number) m = IsOut what number m.turn
 
+-- ---- the log's start
+
+-- What a base says beside its stores is the machine's: the horizon and the first segment, and while no device call failed the
+-- numbers that the manifest has taken, with that of the turn that is out.
+pub record StartServes (start : LogStart) (m : Core) : Type 0 where
+  pub horizon : start.horizon ≡ m.log.horizon
+  pub first : start.first ≡ m.log.first_segment
+  pub taken : m.is_broken ≡ false → runs_as start.taken.items ≡ runs_of (m.manifest.taken ++ due m.turn)
+
 -- ---- the engine
 
 -- the rows of a set that is open
@@ -71,12 +83,14 @@ abbrev pub of_sets : rows.Ghosts Contents
 of_sets = record { rows = contents_rows }
 
 -- It stands for the state in memory and for the device, the log has what waits, the manifest and the slots are as at the end of
--- the last turn, and no job is there.
+-- the last turn, and no set and no job is there.
 pub record Serves {D : Type 0} (g : Ghosts D) (engine : Kvdb D g) (m : Core) : Type 0 where
   pub state : state.Serves of_sets engine.state m
   pub pending : IsPending m
+  pub start : StartServes engine.log_start m
   pub manifest : engine.sequence ≡ m.manifest.sequence
   pub free : engine.free ≡ free_slots m
   pub frozen : m.log.frozen ≡ []
+  pub layout : m.layout ≡ []
   pub jobs : m.jobs ≡ []
   pub side : SideIs g engine.side m

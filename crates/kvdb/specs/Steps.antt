@@ -8,12 +8,7 @@ use Rattle.hse_rows.specs.machine.CoreRefusal.{refusal}
 use Rattle.hse_rows.specs.machine.CoreReply.{reply}
 use Rattle.hse_rows.specs.machine.CoreDone.{done}
 use Rattle.kvdb.specs.declared.engine.Kvdb.{Kvdb}
-use Rattle.hse_rows.specs.transactions.Transaction.{Transaction}
-use Rattle.kvset.specs.Reading.{Contents}
-use Rattle.transactions.specs.Txns.{TxnKept}
-use Rattle.engine_state.specs.Kept.{IsRemembered}
-use Rattle.engine_state.specs.Serves.{IsTxnOf}
-use Rattle.kvdb.specs.Serves.{of_sets, Serves}
+use Rattle.kvdb.specs.Serves.{Serves}
 
 -- Nothing refuses the call, the answer is the machine's, and the engine stands for what it leads to.
 pub record IsDone {D : Type 0} (g : Ghosts D) (m : Core) (call : Call) (answer : Answer ℕ) (new : Kvdb D g) : Type 0 where
@@ -25,9 +20,3 @@ pub record IsDone {D : Type 0} (g : Ghosts D) (m : Core) (call : Call) (answer :
 abbrev pub Steps : {D X F : Type 0} (g : Ghosts D) → (X → Answer ℕ) → (F → Option (Refusal ℕ) → Type 0) → Core → Call → Result X F → Kvdb D g → Type 0
 Steps g told Says m call (Ok x) new = IsDone g m call (told x) new
 Steps g told Says m call (Err fault) new = Says fault (refusal m call) × Serves g new m
-
--- An active transaction of an engine meets the condition of its writes.
-abbrev pub AreRemembered : {D : Type 0} → Ghosts D → Type 0
-AreRemembered {D = D} g =
-    (engine : Kvdb D g) (m : Core) (kept : TxnKept Contents) (transaction : Transaction)
-    → Serves g engine m → IsTxnOf of_sets kept m.timeline transaction → IsRemembered engine.state.locks kept

@@ -17,6 +17,8 @@ use Rattle.kvdb.specs.Turns.{TurnOf}
 
 abbrev pub wish_as : TurnWish → machine.TurnWish
 wish_as wish.Sync = machine.sync
+wish_as (wish.Create name mode prefix) = machine.create name mode prefix
+wish_as (wish.Drop name) = machine.drop name
 
 -- Nothing refuses the turn, and engine and turn stand for what it leads to.
 pub record Took {D : Type 0} (g : Ghosts D) (m : Core) (what : machine.TurnWish) (turn : Turn D g) (new : Kvdb D g) : Type 0 where

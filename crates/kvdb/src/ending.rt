@@ -27,6 +27,7 @@ impl<D: Disk> Kvdb<D> {
             → Serves D.Device self.new (failing m write_turn) }
         ensures broken { self.new.state.is_broken ≡ true }
         ensures side { self.new.side ≡ self.old.side }
+        ensures moment { self.new.moment ≡ self.old.moment }
     {
         let _failed = ran.has_failed;
         self.state.break_down();
@@ -35,14 +36,13 @@ impl<D: Disk> Kvdb<D> {
     /// Gives a turn back that has run, and answers its number; then all up to it is safe. `Broken` comes
     /// exactly where a device call of it failed. It takes no memory and makes no device call.
     ///
-    /// The conditions: this turn is out of this engine, and where it failed `mark_broken` was called
-    /// with it.
+    /// The condition: this turn is out of this engine.
     pub fn end_turn(&mut self, ran: Ran<D>) -> Result<u64, Broken>
         requires out { self.old.side ≡ side.Out ran.kind ran.number }
-        requires marked { ran.has_failed ≡ true → self.old.state.is_broken ≡ true }
         ensures ends { (m : Core) → IsSound m → Serves D.Device self.old m → RanOf D.Device ran m
             → Ends D.Device m result self.new }
         ensures home { self.new.side ≡ side.In ran.back }
+        ensures moment { self.new.moment ≡ self.old.moment }
     {
         let Ran {
             back,
@@ -56,6 +56,7 @@ impl<D: Disk> Kvdb<D> {
             Side::Out(_, _) => {}
         }
         if has_failed {
+            self.state.break_down();
             return Err(Broken);
         }
         self.state.settle(number);

@@ -43,6 +43,7 @@ impl<D: Disk> Kvdb<D> {
         let Kvdb {
             side,
             state: _,
+            log_start: _,
             sequence: _,
             free: _,
             moment: _,

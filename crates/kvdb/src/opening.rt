@@ -11,11 +11,13 @@ ghost use Rattle.kvdb.specs.Serves.{Serves};
 ghost use Rattle.kvdb.specs.Sides.{device_in};
 
 use crate::engine::Kvdb;
+use crate::log_start::LogStart;
 use crate::new_device::prepare;
 use crate::side::Side;
 use back::{Back, loaded_metadata_may_be_bases};
 use device_layout::Layout;
 use engine_state::{EngineSizes, EngineState};
+use manifest::Base;
 use media_disk::Disk;
 use recovery::{OpenFault, Recovered, images_have_one_loading, recover};
 use std::alloc::Global;
@@ -29,6 +31,25 @@ pub(crate) fn sizes_in(layout: Layout) -> EngineSizes
         slot_size: 2u64.pow(layout.power as u32),
         segment_size: layout.log,
         most_stores: layout.stores as u64,
+    }
+}
+
+/// What a base says beside its stores.
+pub(crate) fn log_start_of(base: Base) -> LogStart
+    ensures horizon { result.horizon ≡ base.horizon }
+    ensures first { result.first ≡ base.first }
+    ensures taken { result.taken ≡ base.taken }
+{
+    let Base {
+        horizon,
+        first,
+        taken,
+        stores: _,
+    } = base;
+    LogStart {
+        horizon,
+        first,
+        taken,
     }
 }
 
@@ -49,7 +70,7 @@ fn opened<D: Disk>(alloc: Global, disk: D, recovered: Recovered) -> Result<Kvdb<
         layout,
         log,
         manifest,
-        base: _,
+        base,
         number: _,
         moment,
     } = recovered;
@@ -66,6 +87,7 @@ fn opened<D: Disk>(alloc: Global, disk: D, recovered: Recovered) -> Result<Kvdb<
             manifest,
         }),
         state,
+        log_start: log_start_of(base),
         sequence,
         free: layout.slots as u64,
         moment,

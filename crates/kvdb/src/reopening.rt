@@ -15,7 +15,7 @@ ghost use Rattle.kvdb.specs.Serves.{of_sets, Serves};
 ghost use Rattle.kvdb.specs.Sides.{device_in};
 
 use crate::engine::Kvdb;
-use crate::opening::sizes_in;
+use crate::opening::{log_start_of, sizes_in};
 use crate::side::{Side, TurnKind};
 use back::{Back, loaded_metadata_may_be_bases};
 use device_layout::Layout;
@@ -115,7 +115,7 @@ impl<D: Disk> Kvdb<D> {
                     layout,
                     log,
                     manifest,
-                    base: _,
+                    base,
                     number,
                     moment,
                 } = recovered;
@@ -125,6 +125,7 @@ impl<D: Disk> Kvdb<D> {
                 };
                 set_places(back, layout, log, manifest);
                 self.state = state;
+                self.log_start = log_start_of(base);
                 self.sequence = manifest.sequence;
                 self.free = layout.slots as u64;
                 self.moment = moment;

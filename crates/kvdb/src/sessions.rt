@@ -1,5 +1,5 @@
 //! Sessions: transactions and places for cursors.
-ghost use Rattle.std.specs.Prelude.{◌≡◌, IfOk, OnErr};
+ghost use Rattle.std.specs.Prelude.{◌≡◌, ◌<◌, Err, IfOk, OnErr};
 ghost use Rattle.hse_rows.specs.writes.Change.{change_of};
 ghost use Rattle.hse_rows.specs.transactions.Transaction as machine;
 ghost use Rattle.hse_rows.specs.transactions.Transaction.{Transaction};
@@ -7,9 +7,10 @@ ghost use Rattle.hse_rows.specs.machine.Calls as call;
 ghost use Rattle.hse_rows.specs.machine.Core.{Core};
 ghost use Rattle.hse_rows.specs.machine.CoreDone.{done};
 ghost use Rattle.hse_rows.specs.machine.Replies as answer;
+ghost use Rattle.view.specs.declared.get_fault.TxnState.TheVariants as ended;
+ghost use Rattle.engine_state.specs.declared.faults.WriteFault.TheVariants as fault;
 ghost use Rattle.engine_state.specs.Serves.{IsSound, IsTxnOf};
 ghost use Rattle.engine_state.specs.Inside.{IsWritten};
-ghost use Rattle.engine_state.specs.Kept.{IsRemembered};
 ghost use Rattle.engine_state.specs.Says.{SaysBegin, SaysCommit, SaysEnded, SaysFull, SaysWrite};
 ghost use Rattle.kvdb.specs.Serves.{of_sets, Serves};
 ghost use Rattle.kvdb.specs.Steps.{Steps};
@@ -34,6 +35,7 @@ impl<D: Disk> Kvdb<D> {
             → IfOk result (λ txn. IsTxnOf of_sets txn (done m call.begin).timeline
             (machine.begins self.old.state.begins self.old.state.view.number)) }
         ensures side { self.new.side ≡ self.old.side }
+        ensures moment { self.new.moment ≡ self.old.moment }
     {
         self.state.begin(alloc)
     }
@@ -46,7 +48,8 @@ impl<D: Disk> Kvdb<D> {
     /// first begun of them, and `Since` where commits after the snapshot have one, with the first of
     /// them: the first of these that is so. After a fault engine and transaction are as before.
     ///
-    /// The condition: the transaction was made by this engine since its opening.
+    /// An active transaction over a snapshot whose later commits are forgotten is none of this engine's,
+    /// and is taken as one that was aborted. Of the engine's own there is none.
     pub fn write(
         &mut self,
         alloc: Global,
@@ -54,7 +57,6 @@ impl<D: Disk> Kvdb<D> {
         store: &StoreName,
         change: ChangeRef<'_>,
     ) -> Result<(), WriteFault>
-        requires { IsRemembered self.old.state.locks txn.old }
         ensures step { (m : Core) (transaction : Transaction) → IsSound m → Serves D.Device self.old m
             → IsTxnOf of_sets txn.old m.timeline transaction
             → Steps D.Device (λ _. answer.accepted) SaysWrite m
@@ -64,6 +66,9 @@ impl<D: Disk> Kvdb<D> {
             → IfOk result (λ _. IsWritten of_sets m (change_of change.entry) store.now transaction txn.old txn.new) }
         ensures same { OnErr result (txn.new ≡ txn.old) }
         ensures side { self.new.side ≡ self.old.side }
+        ensures moment { self.new.moment ≡ self.old.moment }
+        ensures forgotten { txn.old.state ≡ ended.Active → txn.old.view.number < self.old.state.locks.least
+            → (result ≡ Err (fault.NotActive ended.Aborted)) × (self.new ≡ self.old) }
     {
         self.state.write(alloc, txn, store, change)
     }
@@ -84,6 +89,7 @@ impl<D: Disk> Kvdb<D> {
             → Steps D.Device answer.ok SaysWrite m
             (call.write_by call.outside store.now (change_of change.entry)) result self.new }
         ensures side { self.new.side ≡ self.old.side }
+        ensures moment { self.new.moment ≡ self.old.moment }
     {
         normal_forms_are_in_order();
         self.state.write_plain(alloc, store, change)
@@ -104,6 +110,7 @@ impl<D: Disk> Kvdb<D> {
             (machine.ended transaction (machine.committed number))) }
         ensures same { OnErr result (txn.new ≡ txn.old) }
         ensures side { self.new.side ≡ self.old.side }
+        ensures moment { self.new.moment ≡ self.old.moment }
     {
         normal_forms_are_in_order();
         self.state.commit(alloc, txn)
@@ -121,6 +128,7 @@ impl<D: Disk> Kvdb<D> {
             (machine.ended transaction machine.aborted)) }
         ensures same { OnErr result (txn.new ≡ txn.old) }
         ensures side { self.new.side ≡ self.old.side }
+        ensures moment { self.new.moment ≡ self.old.moment }
     {
         self.state.abort(txn)
     }
@@ -131,6 +139,7 @@ impl<D: Disk> Kvdb<D> {
         ensures step { (m : Core) → IsSound m → Serves D.Device self.old m
             → Steps D.Device (λ _. answer.accepted) SaysFull m call.take_place result self.new }
         ensures side { self.new.side ≡ self.old.side }
+        ensures moment { self.new.moment ≡ self.old.moment }
     {
         self.state.cursor_place()
     }
@@ -140,6 +149,7 @@ impl<D: Disk> Kvdb<D> {
         ensures step { (m : Core) → IsSound m → Serves D.Device self.old m
             → Serves D.Device self.new (done m call.give_place) }
         ensures side { self.new.side ≡ self.old.side }
+        ensures moment { self.new.moment ≡ self.old.moment }
     {
         self.state.give_place(place)
     }

@@ -23,6 +23,7 @@ impl<D: Disk> Kvdb<D> {
         ensures given { IfOk result (λ turn. self.old.side ≡ side.In turn.back) }
         ensures out { IfOk result (λ turn. self.new.side ≡ side.Out turn.kind turn.number) }
         ensures kept { OnErr result (self.new.side ≡ self.old.side) }
+        ensures moment { self.new.moment ≡ self.old.moment }
     {
         commits_are_a_payload();
         if self.state.is_broken() {
@@ -46,6 +47,7 @@ impl<D: Disk> Kvdb<D> {
                 kind: TurnKind::Sync,
                 number,
                 batch,
+                plan: None,
             }),
             Side::Out(_, _) => unreachable!(),
         }
@@ -60,9 +62,12 @@ impl<D: Disk> Kvdb<D> {
         ensures given { IfOk result (λ turn. self.old.side ≡ side.In turn.back) }
         ensures out { IfOk result (λ turn. self.new.side ≡ side.Out turn.kind turn.number) }
         ensures kept { OnErr result (self.new.side ≡ self.old.side) }
+        ensures moment { self.new.moment ≡ self.old.moment }
     {
         match what {
             TurnWish::Sync => self.take_sync(alloc),
+            TurnWish::Create(name, mode, prefix) => self.take_create(alloc, name, *mode, *prefix),
+            TurnWish::Drop(name) => self.take_drop(alloc, name),
         }
     }
 }

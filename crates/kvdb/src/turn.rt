@@ -1,11 +1,12 @@
 //! A turn, with what it is to write.
 ghost use Rattle.std.specs.Prelude.{◌≤◌};
 ghost use Rattle.wal.specs.Writing.{room_in};
-ghost use Rattle.kvdb.specs.Room.{bytes_of, count_of, need_of};
+ghost use Rattle.kvdb.specs.Room.{bytes_of, count_of, need_of, HasRoomForAny, HasRoomForAny-prop};
 
 use crate::side::TurnKind;
-use back::Back;
+use back::{Back, EntryPlan};
 use gate_log::Batch;
+use hse_rows::{Mode, StoreName};
 use media_disk::Disk;
 use thiserror::Error;
 
@@ -14,6 +15,10 @@ use thiserror::Error;
 pub enum TurnWish {
     /// All commits up to the present last number, made safe.
     Sync,
+    /// A new store of this name, mode and prefix length.
+    Create(StoreName, Mode, u8),
+    /// No store of this name any more.
+    Drop(StoreName),
 }
 
 /// Why no turn was taken. The first that is so is the one that is answered, but that out of memory
@@ -51,16 +56,18 @@ pub enum TurnFault {
     NoMemory,
 }
 
-/// A turn that was taken: the device side, with the commits that it is to write. It is spent by `run`, or by
-/// `stop`.
+/// A turn that was taken: the device side, with the commits that it is to write, and behind them the entry of a
+/// creation or a drop as it is planned. It is spent by `run`, or by `stop`.
 pub struct Turn<D: Disk> {
     pub(crate) back: Back<D>,
     pub(crate) kind: TurnKind,
     pub(crate) number: u64,
     pub(crate) batch: Option<Batch>,
+    pub(crate) plan: Option<EntryPlan>,
     ghost long: { 4 ≤ bytes_of batch },
     ghost counted: { 1 ≤ count_of batch },
     ghost fits: { need_of batch ≤ room_in back.log },
+    ghost planned: { HasRoomForAny back.manifest plan } by { HasRoomForAny-prop back.manifest plan },
 }
 
 /// A turn that has run. It is spent by `Kvdb::end_turn`, or by `stop`.

@@ -42,8 +42,12 @@ fn may_join(run: TakenRun, number: u64) -> bool
     number == run.first + run.count as u64 && run.count < u32::MAX
 }
 
-/// Puts a number, which is above them all, behind the taken ones.
-fn put_taken(taken: &mut Vec<TakenRun>, number: u64) -> Result<(), NoMemory>
+/// Puts the number of a creation or a drop, which is above them all, behind the taken ones: into the
+/// last run, where it follows that and the run has room, and else as a run of its own. Out of memory,
+/// the runs are of no use any more.
+///
+/// The condition: the number is at most 2^62.
+pub fn put_taken(taken: &mut Vec<TakenRun>, number: u64) -> Result<(), NoMemory>
     requires { number ≤ 2 ^ 62 }
     ensures { OnOk result
         (runs_as taken.new.items ≡ with_taken (runs_as taken.old.items) number) }

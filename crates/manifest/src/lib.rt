@@ -20,6 +20,7 @@ mod stores;
 mod writing;
 
 pub use base::{Base, BaseStore};
+pub use change::put_taken;
 pub use encode::{encode_base, encode_entry};
 pub use entry::Entry;
 pub use fault::ManifestFault;

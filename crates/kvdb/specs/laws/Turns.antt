@@ -1,5 +1,5 @@
 -- Turns while they are out: what stands for them when the life grows, and when they were written.
-use Rattle.std.proofs.Common.{◌≡◌, ℕ, ◌≤◌, List, ◌++◌, Option, sym, ◌∙◌, ap, subst, arith, length-append}
+use Rattle.std.proofs.Common.{◌≡◌, ℕ, ◌-◌, ◌<◌, ◌≤◌, List, ◌++◌, Option, sym, ◌∙◌, ap, subst, arith, length-append}
 use Rattle.media_disk.specs.declared.device.Device.{Ghosts}
 use Rattle.hse_rows.specs.states.State.{State}
 use Rattle.hse_rows.specs.states.History.{Event, last_number}
@@ -7,18 +7,22 @@ use Rattle.hse_rows.specs.machine.Turn.{TakenTurn, Plan, settles, enters, remove
 use Rattle.hse_rows.specs.machine.ManifestRoom.{ManifestState}
 use Rattle.hse_rows.specs.rows.Layout.{Layout}
 use Rattle.hse_rows.specs.rows.Job.{installed}
+use Rattle.manifest.specs.Text as a_manifest
+use Rattle.manifest.specs.declared.manifest.Manifest.{Manifest}
 use Rattle.back.specs.declared.back.Back.{Back}
+use Rattle.back.specs.declared.plan.EntryPlan.{EntryPlan}
 use Rattle.hse_rows.specs.machine.Core.{Core, number_of, layout_but}
 use Rattle.recovery.specs.Image.{Loaded}
 use Rattle.kvdb.specs.Found.{Entered, StoresFrom, stored_at}
 use Rattle.kvdb.specs.Growth.{Grows}
 use Rattle.kvdb.specs.Serves.{IsPlaced, IsUnsure, IsOut, SideIs}
-use Rattle.kvdb.specs.Turns.{entered_after, IsOf, LeadsTo, TurnOf, RanOf}
+use Rattle.kvdb.specs.Turns.{entered_after, Carries, EntersAs, IsOf, IsPut, LeadsTo, TurnOf, RanOf}
 use Rattle.kvdb.specs.declared.turn.Turn.{Turn}
 use Rattle.kvdb.specs.declared.turn.Ran.{Ran}
 use Rattle.kvdb.specs.declared.side.Side.{Side}
 use Rattle.kvdb.specs.declared.side.Side.TheVariants as side
 use Rattle.kvdb.specs.declared.side.TurnKind.{TurnKind}
+use Rattle.kvdb.specs.declared.side.TurnKind.TheVariants as kind
 use Rattle.kvdb.specs.laws.Growth.{stored-grown, entered-grown}
 
 -- ---- a life that has grown
@@ -99,6 +103,32 @@ module _ (old new : Core) (grows : Grows old new) (from : old.timeline.base.numb
     leads = leads.leads ∙ stored number low high;
   }
 
+  enters_grown : (number : ℕ) (entry : a_manifest.Entry) (manifest : Manifest) (batch : Option (List ℕ)) (plan : Option EntryPlan) (loaded : Loaded)
+      → number ≤ number_of old → EntersAs old number entry manifest batch plan loaded → EntersAs new number entry manifest batch plan loaded
+  enters_grown number entry manifest batch plan loaded high e = record {
+    entries = e.entries;
+    batch_is = e.batch_is;
+    may = e.may;
+    enters = e.enters;
+    planned = e.planned;
+    above = omega (arith, e.above, grows.safe);
+    committed = e.committed ∙ stored (number - 1) (omega (arith, e.above)) (omega (arith, high));
+    entered = e.entered ∙ stored number (omega (arith, e.above)) high;
+  }
+
+  carries_grown : (what : TurnKind) (number : ℕ) (manifest : Manifest) (batch : Option (List ℕ)) (plan : Option EntryPlan) (loaded : Loaded)
+      → old.safe ≤ number → number ≤ number_of old → Carries old what number manifest batch plan loaded → Carries new what number manifest batch plan loaded
+  carries_grown kind.Sync number manifest batch plan loaded low high c = (c.0, leads_grown number batch loaded low high c.1)
+  carries_grown kind.Freeze number manifest batch plan loaded low high c = c
+  carries_grown kind.Install number manifest batch plan loaded low high c = c
+  carries_grown kind.Create number manifest batch plan loaded low high c =
+      (c.0, enters_grown number (a_manifest.create c.0) manifest batch plan loaded high c.1)
+  carries_grown kind.Drop number manifest batch plan loaded low high c =
+      (c.0, enters_grown number (a_manifest.drop number c.0) manifest batch plan loaded high c.1)
+
+  put_grown : (what : Plan) (plan : Option EntryPlan) → IsPut old.manifest what plan → IsPut new.manifest what plan
+  put_grown what plan is = subst (λ (x : ManifestState). IsPut x what plan) (sym grows.manifest) is
+
   -- a turn that was taken
   pub turn_grown : {D : Type 0} (g : Ghosts D) (turn : Turn D g) → TurnOf g turn old → TurnOf g turn new
   turn_grown g turn t = record {
@@ -107,13 +137,15 @@ module _ (old new : Core) (grows : Grows old new) (from : old.timeline.base.numb
     of = of_grown turn.kind turn.number t.out t.of;
     whole = grows.is_broken ∙ t.whole;
     placed = placed_grown g turn.back old.manifest new.manifest grows.manifest t.placed;
+    put = put_grown t.out.plan turn.plan t.put;
+    calls = t.calls;
     ready = λ told.
         let r = t.ready told in
         record {
           loaded = r.loaded;
           rests = r.rests;
           same = r.same ∙ stored_safe;
-          carries = leads_grown turn.number turn.batch r.loaded t.of.low t.of.high r.carries;
+          carries = carries_grown turn.kind turn.number turn.back.manifest turn.batch turn.plan r.loaded t.of.low t.of.high r.carries;
         };
   }
 

@@ -1,5 +1,5 @@
 -- An engine whose turn made its device calls without a fault: that is no call on the engine.
-use Rattle.std.proofs.Common.{◌≡◌, ℕ, ◌≤◌, false, arith, sym, ◌∙◌, ap, subst}
+use Rattle.std.proofs.Common.{◌≡◌, ℕ, ◌≤◌, false, List, ◌++◌, arith, sym, ◌∙◌, ap, subst}
 use Rattle.media_disk.specs.declared.device.Device.{Ghosts}
 use Rattle.hse_rows.specs.declared.row_set.RowSet as rows
 use Rattle.hse_rows.specs.machine.Turn.{TakenTurn, Turn as machine_turn, home, taken, written}
@@ -7,6 +7,7 @@ use Rattle.hse_rows.specs.machine.Calls.{write_turn}
 use Rattle.hse_rows.specs.machine.Core.{Core}
 use Rattle.hse_rows.specs.machine.CoreDone.{done}
 use Rattle.hse_rows.specs.machine.Recorded.{due}
+use Rattle.hse_rows.specs.machine.TakenRuns.{runs_of}
 use Rattle.engine_state.specs.Serves.{ServesAbove, handed, handed_by}
 use Rattle.engine_state.specs.declared.state.EngineState.{EngineState}
 use Rattle.kvdb.specs.Pending.{IsPending}
@@ -60,14 +61,22 @@ serves_written g engine m out phase s = record {
   state = subst (ServesAbove of_sets engine.state (record m { turn = written m.turn false }))
       (ap (handed_by m.safe) phase ∙ sym (ap (λ (t : machine_turn). handed_by m.safe (written t false)) phase))
       (above_turn of_sets engine.state m (written m.turn false) (handed m) s.state);
-  pending = pending_taken m (written m.turn false)
-      (ap (λ (t : machine_turn). due (written t false)) phase ∙ sym (ap due phase))
+  pending = pending_taken m (written m.turn false) same_due
       (let was : handed m ≡ out.number = ap (handed_by m.safe) phase in
       let is : handed_by m.safe (written m.turn false) ≡ out.number = ap (λ (t : machine_turn). handed_by m.safe (written t false)) phase in
       let e : handed m ≤ handed_by m.safe (written m.turn false) = omega (arith, was, is) in e) s.pending;
+  start = record {
+    horizon = s.start.horizon;
+    first = s.start.first;
+    taken = λ whole. s.start.taken whole ∙ ap (λ (l : List ℕ). runs_of (m.manifest.taken ++ l)) (sym same_due);
+  };
   manifest = s.manifest;
   free = s.free;
   frozen = s.frozen;
+  layout = s.layout;
   jobs = s.jobs;
   side = side_written g engine.side m out phase s.side;
 }
+  where
+    same_due : due (written m.turn false) ≡ due m.turn
+    same_due = ap (λ (t : machine_turn). due (written t false)) phase ∙ sym (ap due phase)

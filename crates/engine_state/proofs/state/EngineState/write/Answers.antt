@@ -1,10 +1,12 @@
-use Rattle.std.proofs.Common.{sym, ◌∙◌}
-use Rattle.engine_state.proofs.TxnLemmas.{is-going}
+use Rattle.std.specs.Prelude.{nat_le}
+use Rattle.std.proofs.Common.{◌≡◌, ◌≤◌, sym, ap, ◌∙◌}
+use Rattle.std.proofs.lemmas.Bool.{false≢true, le-leb}
+use Rattle.engine_state.proofs.WriteLemmas.{remembered}
 use Rattle.engine_state.proofs.state.EngineState.write.Goals as goal
 
-pub write_active-requires : goal.write_active-requires
-write_active-requires g c = c.requires (sym c.state.ensures ∙ c.in-Active.is)
-
-pub returns-in-Active-clause-step : goal.returns-in-Active-clause-step
-returns-in-Active-clause-step g c m transaction sound s of =
-    c.write_active.ensures.step m transaction sound s of (is-going transaction.state (sym c.in-Active.is ∙ c.state.ensures ∙ of.stands.state))
+pub returns-then-not-remembers-clause-step : goal.returns-then-not-remembers-clause-step
+returns-then-not-remembers-clause-step g c m transaction sound s of =
+    let low : c.args.self.now.locks.least ≤ c.args.txn.now.view.number =
+    remembered g.R.RowSet c.args.self.now m c.args.txn.now transaction s of (sym c.state.ensures ∙ c.in-Active.is) in
+    absurd (false≢true (sym c.if-not-remembers.true ∙ c.remembers.ensures
+    ∙ ap (nat_le c.args.self.now.locks.least) c.snapshot.ensures ∙ le-leb _ _ low))

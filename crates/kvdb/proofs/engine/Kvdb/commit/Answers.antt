@@ -15,4 +15,4 @@ returns-clause-step g c m transaction sound s is =
     c.args.txn.now.id transaction is.at
     (going-has (Written m) m c.args.txn.now.id transaction is.at unrefused s.pending.written)
     (going-has (Names s.pending.named) m c.args.txn.now.id transaction is.at unrefused s.pending.written_named))
-    refl refl refl (c.commit.ensures.step m transaction sound s.state is)
+    refl refl refl refl (c.commit.ensures.step m transaction sound s.state is)

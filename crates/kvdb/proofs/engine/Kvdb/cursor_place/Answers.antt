@@ -11,4 +11,4 @@ pub returns-clause-step : goal.returns-clause-step
 returns-clause-step g c m sound s =
     lifts g.D.Device c.args.self.now _ (λ _. accepted) SaysFull m call.take_place c.cursor_place.result (session_grows m call.take_place tt)
     sound.limits.since_base sound.limits.until_now s
-    (λ unrefused. pending_placed m (m.cursors + 1) s.pending) refl refl refl (c.cursor_place.ensures m s.state)
+    (λ unrefused. pending_placed m (m.cursors + 1) s.pending) refl refl refl refl (c.cursor_place.ensures m s.state)

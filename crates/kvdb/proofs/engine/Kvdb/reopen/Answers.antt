@@ -20,7 +20,7 @@ use Rattle.kvdb.proofs.engine.Kvdb.reopen.Goals as goal
 pub returns-in-Out-clause-reopens : goal.returns-in-Out-clause-reopens
 returns-in-Out-clause-reopens g c m sound s = (
   reopen_busy _ _ m.turn (out_side g.D.Device c.args.self.now.side _ _ m c.in-Out.is s.side),
-  serves_same g.D.Device c.args.self.now _ m s s.state (sym c.in-Out.is) refl refl,
+  serves_same g.D.Device c.args.self.now _ m s s.state (sym c.in-Out.is) refl refl refl,
 )
 
 pub returns-in-Err-clause-reopens : goal.returns-in-Err-clause-reopens
@@ -30,7 +30,7 @@ returns-in-Err-clause-reopens g c m sound s =
       stays_after g.D.Device m sound.limits.since_base sound.limits.until_now c.in-In.back h
           c.images_have_one_loading.ensures.not_refused c.images_have_one_loading.ensures.not_other c.read_again.new.back
           c.read_again.ensures.same.0 c.read_again.ensures.same.1 c.read_again.ensures.same.2 c.read_again.ensures.keeps
-          c.args.self.now _ s refl refl refl _ (rw c.in-Err.is at c.read_again.ensures.recovered) (c.note_fault.ensures m s.state),
+          c.args.self.now _ s refl refl refl refl _ (rw c.in-Err.is at c.read_again.ensures.recovered) (c.note_fault.ensures m s.state),
     )
 
 pub returns-in_default-clause-crash : goal.returns-in_default-clause-crash
@@ -60,12 +60,18 @@ returns-in-In-clause-reopens g c m sound s =
           found.0 _ _ found.1 found.2.number
           (serves_opened g.D.Device image _ c.set_places.new.back found.0 r found.1 found.2
           (c.loaded_metadata_may_be_bases.ensures.stores image found.0 found.1)
+          (c.loaded_metadata_may_be_bases.ensures.runs image found.0 found.1)
           (record {
             layout = c.set_places.ensures.layout;
             log = c.set_places.ensures.log;
             manifest = c.set_places.ensures.manifest;
             seen = λ told_so. ap (λ d. g.D.Device.seen d) c.set_places.ensures.disk ∙ c.read_again.ensures.keeps.seen told_so;
             still = λ told_so. ap (λ d. g.D.Device.pending d) c.set_places.ensures.disk ∙ c.in-Ok.ensures.barrier.safe told_so;
+          })
+          (record {
+            horizon = c.log_start_of.ensures.horizon;
+            first = c.log_start_of.ensures.first;
+            taken = c.log_start_of.ensures.taken;
           }) refl
           (c.in-Ok-of.ensures (stored_of found.0) (opened image found.0 r found.1 found.2 c.sizes_in-sizes.result
           (subst (λ (l : Layout). SizesServe c.sizes_in-sizes.result (sizes_of (params_of l))) found.2.layout c.sizes_in-sizes.ensures)))

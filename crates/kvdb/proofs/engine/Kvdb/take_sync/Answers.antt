@@ -11,4 +11,4 @@ returns-clause-takes g c m sound s =
     let home : IsHome g.D.Device c.in-In-replace.back m = side_in g.D.Device _ _ m (sym c.replace.ensures.value ∙ c.in-In-replace.is) s.side in
     took_sync g.D.Device c.args.self.now _ m _ c.in-Ok.batch c.commits_are_a_payload.ensures sound s whole home
     (c.number-number.ensures ∙ ap (λ (x : State). x.number) s.state.view.state ∙ folded-number m.timeline.base m.timeline.history)
-    (c.in-Ok.ensures.hands m _ whole s.state) c.replace.ensures.after refl refl refl refl
+    (c.in-Ok.ensures.hands m _ whole s.state) c.replace.ensures.after refl refl refl refl refl refl

@@ -15,4 +15,4 @@ returns-clause-step g c m transaction sound s is =
     lifts g.D.Device c.args.self.now _ (λ _. accepted) SaysWrite m what c.write.result (session_grows m what tt)
     sound.limits.since_base sound.limits.until_now s
     (λ unrefused. pending_inside m order c.args.store.now (change_of c.args.change) transaction sound is.at unrefused s.pending)
-    refl refl refl (c.write.ensures.step m transaction sound s.state is)
+    refl refl refl refl (c.write.ensures.step m transaction sound s.state is)

@@ -14,4 +14,4 @@ returns-clause-step g c m sound s =
     lifts g.D.Device c.args.self.now _ ok SaysWrite m what c.write_plain.result (session_grows m what tt)
     sound.limits.since_base sound.limits.until_now s
     (λ unrefused. pending_plain c.normal_forms_are_in_order.ensures m c.args.store.now (change_of c.args.change) sound unrefused s.pending)
-    refl refl refl (c.write_plain.ensures m sound s.state)
+    refl refl refl refl (c.write_plain.ensures m sound s.state)
