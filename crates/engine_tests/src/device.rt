@@ -14,13 +14,13 @@ use std::alloc::Global;
 use std::process::Abort;
 use std::test::Fail;
 
-/// What the devices are made with: the least that there may be, and two stores.
+/// What the devices are made with: the least that there may be, and up to three stores.
 pub(crate) const PARAMS: Params = Params {
     power: 16,
     slots: 4,
     manifest: 65_536,
     log: 65_536,
-    stores: 2,
+    stores: 3,
 };
 
 /// A live store of this name and mode, made by this number.

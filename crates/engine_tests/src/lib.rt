@@ -6,6 +6,14 @@ mod device;
 #[cfg(test)]
 mod faults;
 #[cfg(test)]
+mod memory;
+#[cfg(test)]
+mod pairs;
+#[cfg(test)]
 mod sessions;
+#[cfg(test)]
+mod store_faults;
+#[cfg(test)]
+mod stores;
 #[cfg(test)]
 mod turns;

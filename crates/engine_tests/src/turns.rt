@@ -69,7 +69,7 @@ pub(crate) fn refusal(alloc: Global, db: &mut Kvdb<MemDisk>) -> Result<TurnFault
 }
 
 /// What pending ranges hold where the device stops.
-static FILLS: [Fill; 5] = [
+pub(crate) static FILLS: [Fill; 5] = [
     Fill::Old,
     Fill::New,
     Fill::Torn,
