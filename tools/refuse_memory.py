@@ -4,8 +4,8 @@
     tools/refuse_memory.py crates/engine_tests/out/engine_tests_tests
 
 The test makes each call again where it was refused memory, and asserts that the refused one changed nothing. A run in
-which an allocation of the test itself is refused ends with that fault, and a run whose assertion is not so is killed.
-It wants a C compiler, as cc.
+which an allocation of the test itself or of its device is refused ends with that fault, and a run whose assertion is
+not so is killed. It wants a C compiler, as cc.
 """
 import os
 import subprocess
@@ -87,7 +87,7 @@ def main():
                 own += 1
             else:
                 sys.exit(f"allocation {number} of {made}: status {status}\n{told}")
-    print(f"{made} allocations: {good} refused calls changed nothing, {own} were the test's own")
+    print(f"{made} allocations: {good} refused calls changed nothing, {own} were the test's or its device's")
 
 
 if __name__ == "__main__":
