@@ -7,7 +7,7 @@ use crate::params::size_of;
 use gate_log::Region;
 
 /// The layout of a device: what it was made with, and the version of its format. Each function that
-/// takes one asks that it is good.
+/// takes one asks that it is good, but for `params`.
 #[derive(Clone, Copy, Debug, PartialEq, Eq)]
 pub struct Layout {
     pub power: u8,

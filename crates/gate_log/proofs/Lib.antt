@@ -1,5 +1,6 @@
 mod AppendLemmas
 mod GateLemmas
+mod PutLemmas
 mod ReadLemmas
 mod StartLemmas
 mod TornLemmas

@@ -54,6 +54,10 @@ pub record IsWritten (region : List ℕ) (sequence : ℕ) (payloads : List (List
   pub gated : Gated region sequence payloads
   pub gate_is : gated.gate ≡ closed_gate
 
+-- what a start writes: an open head, the sequence, and a closed first gate
+abbrev pub started_text : ℕ → List ℕ
+started_text sequence = open_gate ∷ (big_bytes 8 sequence ++ closed_gate ∷ [])
+
 -- The region's head is closed, so it holds nothing.
 abbrev pub IsClosed : List ℕ → Type 0
 IsClosed [] = Unit {0}

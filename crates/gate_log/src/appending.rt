@@ -1,9 +1,10 @@
 //! Adds a batch to a region.
-ghost use Rattle.std.specs.Prelude.{◌≡◌, ◌<◌, ℕ, List, [], ◌∷◌, ◌++◌, OnOk};
+ghost use Rattle.std.specs.Prelude.{◌≡◌, ◌+◌, ◌<◌, ℕ, List, [], ◌∷◌, ◌++◌, OnOk};
 ghost use Rattle.media_disk.specs.Calls.{CallsMade};
-ghost use Rattle.media_disk.specs.Content.{Torn};
+ghost use Rattle.media_disk.specs.Content.{put_at, Torn};
 ghost use Rattle.gate_log.specs.Answers.{IsAppendAnswer, AppendReports};
-ghost use Rattle.gate_log.specs.Gates.{Gated, IsWritten};
+ghost use Rattle.gate_log.specs.Framed.{framed};
+ghost use Rattle.gate_log.specs.Gates.{Gated, IsWritten, open_gate};
 ghost use Rattle.gate_log.specs.Places.{region_of, tail_of, IsApart, LiesIn};
 ghost use Rattle.gate_log.specs.Crashes.{LeavesRegion, OldOrNew};
 
@@ -59,6 +60,8 @@ pub fn append<D: Disk>(
         → Gated (region_of region.now (D.seen disk.old)) sequence payloads
         → IsWritten (region_of region.now (D.seen disk.new)) sequence
         (payloads ++ batch.now ∷ [])) }
+    ensures bytes { D.tells → OnOk result (D.seen disk.new
+        ≡ put_at (D.seen disk.old) (region.now.at + tail.old.place) (open_gate ∷ framed batch.now)) }
     ensures others { D.tells
         → Torn region.now.at region.now.size (D.seen disk.old) (D.seen disk.new) }
     ensures durable { D.tells → OnOk result (D.pending disk.new ≡ []) }

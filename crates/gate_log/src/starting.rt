@@ -2,8 +2,8 @@
 ghost use Rattle.std.specs.Prelude.{◌≡◌, ◌≤◌, [], IfOk, OnOk};
 ghost use Rattle.hse_io.specs.Faults.{HasCause};
 ghost use Rattle.media_disk.specs.Calls.{CallsMade};
-ghost use Rattle.media_disk.specs.Content.{Torn};
-ghost use Rattle.gate_log.specs.Gates.{IsWritten, first_gate, least_size};
+ghost use Rattle.media_disk.specs.Content.{put_at, Torn};
+ghost use Rattle.gate_log.specs.Gates.{IsWritten, first_gate, least_size, started_text};
 ghost use Rattle.gate_log.specs.Places.{region_of, IsApart, LiesIn};
 ghost use Rattle.gate_log.specs.Crashes.{LeavesRegion, ClosedOrStarted};
 
@@ -34,6 +34,8 @@ pub fn start<D: Disk>(disk: &mut D, region: &Region, sequence: u64) -> Result<Ta
     ensures extent { D.extent disk.new ≡ D.extent disk.old }
     ensures started { D.tells
         → OnOk result (IsWritten (region_of region.now (D.seen disk.new)) sequence []) }
+    ensures bytes { D.tells → OnOk result
+        (D.seen disk.new ≡ put_at (D.seen disk.old) region.now.at (started_text sequence)) }
     ensures others { D.tells
         → Torn region.now.at region.now.size (D.seen disk.old) (D.seen disk.new) }
     ensures durable { D.tells → OnOk result (D.pending disk.new ≡ []) }

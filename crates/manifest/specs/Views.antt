@@ -1,6 +1,5 @@
 -- The types of this crate, as contracts see them.
-use Rattle.std.specs.Prelude.{◌≡◌, ℕ, List, map, Option, Some, None, Result, Ok, Err}
-use denote.Ref.{Bor}
+use Rattle.std.specs.Prelude.{◌≡◌, ℕ, List, map, Result, Ok, Err}
 use Rattle.hse_rows.specs.declared.store.Mode.{Mode}
 use Rattle.hse_rows.specs.machine.TakenRuns.{runs_as}
 use Rattle.manifest.specs.Text.{described_text}
@@ -24,10 +23,6 @@ metadata_as base = record {
   taken = runs_as base.taken.items;
   stores = stores_as base.stores.items;
 }
-
-abbrev pub before_as : Option (Bor Base) → Option Metadata
-before_as None = None
-before_as (Some base) = Some (metadata_as base.now)
 
 -- the text of a store but for its id
 abbrev pub described_as : List ℕ → Mode → ℕ → List ℕ

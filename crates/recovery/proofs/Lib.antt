@@ -8,6 +8,7 @@ pub mod OneVersion
 mod FormatLemmas
 mod NewLemmas
 mod StopLemmas
+mod TextLemmas
 pub mod LayerLemmas
 pub mod ViewLemmas
 pub mod NamedLemmas

@@ -6,5 +6,6 @@ pub mod Refused
 pub mod Answers
 pub mod Keeps
 pub mod Formatting
+pub mod DeviceText
 pub mod laws
 pub mod Machine

@@ -3,6 +3,7 @@ ghost use Rattle.std.specs.Prelude.{◌≡◌, ◌≤◌, [], replicate, IfOk, O
 ghost use Rattle.hse_io.specs.Faults.{HasCause, next_count};
 ghost use Rattle.media_disk.specs.Calls.{CallsMade};
 ghost use Rattle.manifest.specs.Text.{base_text};
+ghost use Rattle.recovery.specs.DeviceText.{device_text};
 ghost use Rattle.recovery.specs.Formatting.{first_loaded, first_metadata, first_state, layout_of, FormatReports, IsAnswerOn, IsFormatAnswer, StopsWell};
 ghost use Rattle.recovery.specs.Image.{IsLoaded};
 ghost use Rattle.recovery.specs.Stored.{Stores};
@@ -61,6 +62,8 @@ pub fn format<D: Disk>(alloc: Global, disk: &mut D, params: &Params) -> Result<u
     ensures told { D.tells → IsAnswerOn (D.seen disk.old) result }
     ensures formed { D.tells
         → OnOk result (IsLoaded (D.seen disk.new) (first_loaded (layout_of params.now))) }
+    ensures bytes { D.tells
+        → OnOk result (D.seen disk.new ≡ device_text (layout_of params.now)) }
     ensures stored { D.tells → OnOk result (Stores (D.seen disk.new) first_state) }
     ensures calls { CallsMade D.Device disk.old disk.new }
     ensures reports { FormatReports D.Device disk.old disk.new result }

@@ -1,16 +1,18 @@
 //! Writes the parts of a new device, its superblock's gate last.
-ghost use Rattle.std.specs.Prelude.{◌≡◌, ◌≤◌, ℕ, List, [], ◌∷◌, length, IfOk, OnOk};
+ghost use Rattle.std.specs.Prelude.{◌≡◌, ◌+◌, ◌≤◌, ℕ, List, [], ◌∷◌, length, replicate, IfOk, OnOk};
 ghost use Rattle.hse_io.specs.Faults.{HasCause};
 ghost use Rattle.media_disk.specs.Calls.{CallsMade};
 ghost use Rattle.media_disk.specs.Content.{put_at, Torn};
 ghost use Rattle.media_disk.specs.Leaves.{LeavesOnly};
-ghost use Rattle.gate_log.specs.Gates.{first_gate, open_gate};
+ghost use Rattle.gate_log.specs.Framed.{framed};
+ghost use Rattle.gate_log.specs.Gates.{first_gate, open_gate, started_text};
 ghost use Rattle.hse_rows.specs.machine.Sizes.{device_block};
-ghost use Rattle.device_layout.specs.Layouts.{IsGood, params_of, size_of_device};
+ghost use Rattle.device_layout.specs.Layouts.{IsGood, half_of, params_of, size_of_device};
 ghost use Rattle.device_layout.specs.Superblock.{IsSuperblock};
 ghost use Rattle.manifest.specs.Text.{base_text};
+ghost use Rattle.recovery.specs.DeviceText.{device_text};
 ghost use Rattle.recovery.specs.Formatting.{first_loaded, first_metadata, IsBegun, IsBlank, IsFilled, IsStopped};
-ghost use Rattle.recovery.specs.Image.{IsLoaded};
+ghost use Rattle.recovery.specs.Image.{IsLoaded, log_region};
 
 use crate::logs::FIRST;
 use device_layout::Layout;
@@ -29,6 +31,8 @@ fn begin<D: Disk>(disk: &mut D, layout: Layout, block: &[u8]) -> Result<Tail, Fa
     ensures extent { D.extent disk.new ≡ D.extent disk.old }
     ensures begun { D.tells → IsBlank layout (D.seen disk.old)
         → OnOk result (IsBegun layout block.now [] (D.seen disk.new)) }
+    ensures bytes { D.tells → OnOk result (D.seen disk.new
+        ≡ put_at (put_at (D.seen disk.old) 0 block.now) (half_of layout 1).at (started_text 1)) }
     ensures durable { D.tells → OnOk result (D.pending disk.new ≡ []) }
     ensures crash { D.tells → IsBlank layout (D.seen disk.old) → D.pending disk.old ≡ []
         → LeavesOnly D.Device disk.old disk.new (IsStopped layout) }
@@ -49,6 +53,9 @@ fn fill<D: Disk>(disk: &mut D, layout: Layout, tail: Tail, base: &Batch) -> Resu
     ensures extent { D.extent disk.new ≡ D.extent disk.old }
     ensures filled { D.tells → (block : List ℕ) → IsBegun layout block [] (D.seen disk.old)
         → OnOk result (IsFilled layout block base.now (D.seen disk.new)) }
+    ensures bytes { D.tells → OnOk result (D.seen disk.new ≡ put_at
+        (put_at (D.seen disk.old) ((half_of layout 1).at + first_gate) (open_gate ∷ framed base.now))
+        (log_region layout).at (started_text 1)) }
     ensures durable { D.tells → OnOk result (D.pending disk.new ≡ []) }
     ensures crash { D.tells → (block : List ℕ) → IsSuperblock 0 (params_of layout) block
         → IsBegun layout block [] (D.seen disk.old) → D.pending disk.old ≡ []
@@ -97,6 +104,8 @@ pub(crate) fn form<D: Disk>(
     ensures extent { D.extent disk.new ≡ D.extent disk.old }
     ensures formed { D.tells → IsBlank layout (D.seen disk.old)
         → OnOk result (IsLoaded (D.seen disk.new) (first_loaded layout)) }
+    ensures bytes { D.tells → D.seen disk.old ≡ replicate (size_of_device layout) 0
+        → OnOk result (D.seen disk.new ≡ device_text layout) }
     ensures durable { D.tells → OnOk result (D.pending disk.new ≡ []) }
     ensures stopped { D.tells → IsBlank layout (D.seen disk.old) → D.pending disk.old ≡ []
         → (image : List ℕ) → D.could disk.new (D.clock disk.old) image → IsStopped layout image }

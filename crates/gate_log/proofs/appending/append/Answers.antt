@@ -1,10 +1,13 @@
 -- An append's writes, and a crash in one of them.
-use Rattle.std.proofs.Common.{subst, ◌≡◌, ◌+◌, ◌≤◌, List, ℕ, length, arith, ap, ◌∙◌}
+use Rattle.std.proofs.Common.{subst, ◌≡◌, ◌+◌, ◌≤◌, List, [], ◌∷◌, ℕ, length, arith, ap, ◌∙◌}
 use Rattle.media_disk.specs.Content.{put_at}
 use Rattle.media_disk.specs.laws.Leaves.{leaves_more, leaves_joined}
+use Rattle.gate_log.specs.Framed.{framed}
+use Rattle.gate_log.specs.Gates.{open_gate}
 use Rattle.gate_log.specs.Places.{need_of}
 use Rattle.gate_log.specs.laws.Spelling.{length-framed}
 use Rattle.gate_log.proofs.AppendLemmas.{crash_behind, crash_at, appended}
+use Rattle.gate_log.proofs.PutLemmas.{put_before}
 use Rattle.gate_log.specs.laws.Ranges.{torn_twice, torn_wider}
 use Rattle.gate_log.proofs.appending.append.Goals as goal
 
@@ -73,3 +76,13 @@ returns-clause-crash g c told sequence payloads tail gated apart =
     (leaves_more g.D.Device _ _ _ _ (c.write_and_sync-2.ensures.crash told)
     (crash_at c.args.region.now c.args.tail.now.place sequence payloads c.args.batch.now _ _ tail gated inside (omega arith) c.framed.ensures.fits
     (length-framed c.args.batch.now) _ written wider _ (c.in_ok-write_and_sync.ensures.durable told)))
+
+pub returns-clause-bytes : goal.returns-clause-bytes
+returns-clause-bytes g c told =
+    let inside : c.args.region.now.at + c.args.region.now.size ≤ length (g.D.Device.seen c.args.disk.now) = omega (arith, g.met.D.Disk.as_long c.args.disk.now told) in
+    let written =
+    subst (λ (l : List ℕ). g.D.Device.seen c.write_and_sync.new.disk ≡ put_at (g.D.Device.seen c.args.disk.now) (c.args.region.now.at + c.args.tail.now.place + 1) l)
+    c.framed.ensures.spelled (c.in_ok-write_and_sync.ensures.written told) in
+    c.in_ok-write_and_sync-2.ensures.written told
+    ∙ ap (λ (l : List ℕ). put_at l (c.args.region.now.at + c.args.tail.now.place) (open_gate ∷ [])) written
+    ∙ put_before (g.D.Device.seen c.args.disk.now) (open_gate ∷ []) (framed c.args.batch.now) (c.args.region.now.at + c.args.tail.now.place) (omega arith)

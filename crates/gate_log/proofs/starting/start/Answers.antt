@@ -1,6 +1,8 @@
 -- A start's writes, and a crash in one of them.
-use Rattle.std.proofs.Common.{◌≡◌, ◌+◌, ◌≤◌, List, ℕ, length, arith, ap, ◌∙◌}
+use Rattle.std.proofs.Common.{◌≡◌, ◌+◌, ◌≤◌, List, [], ◌∷◌, ℕ, length, arith, ap, ◌∙◌}
 use Rattle.media_disk.specs.Content.{put_at}
+use Rattle.gate_log.specs.Gates.{open_gate, started_text}
+use Rattle.gate_log.proofs.PutLemmas.{put_before, put_over}
 use Rattle.gate_log.proofs.StartLemmas.{opening, length_opening, head_wider, started, crash_first, crash_second, crash_last}
 use Rattle.gate_log.specs.laws.Ranges.{torn_twice, torn_wider}
 use Rattle.gate_log.proofs.starting.start.Goals as goal
@@ -84,3 +86,18 @@ returns-clause-crash g c told apart =
     c.write_and_sync.ensures.calls.forward _ (omega arith) (c.write_and_sync.ensures.crash told)
     c.write_and_sync-2.new.disk c.ranges.sequence.fits inside others (c.in_ok-write_and_sync.ensures.durable told) second
     c.write_and_sync-2.ensures.calls.forward (c.write_and_sync-2.ensures.crash told)
+
+pub returns-clause-bytes : goal.returns-clause-bytes
+returns-clause-bytes g c told =
+    let long = length_opening c.args.sequence in
+    let inside : c.args.region.now.at + c.args.region.now.size ≤ length (g.D.Device.seen c.close_head.new.disk) =
+    omega (arith, g.met.D.Disk.as_long c.close_head.new.disk told) in
+    let second : g.D.Device.seen c.write_and_sync.new.disk
+    ≡ put_at (g.D.Device.seen c.close_head.new.disk) (c.args.region.now.at + 1) (opening c.args.sequence) =
+    c.in_ok-write_and_sync.ensures.written told
+    ∙ ap (λ (l : List ℕ). put_at (g.D.Device.seen c.close_head.new.disk) (c.args.region.now.at + 1) l) c.write_u64.ensures in
+    c.in_ok-write_and_sync-2.ensures.written told
+    ∙ ap (λ (l : List ℕ). put_at l c.args.region.now.at (open_gate ∷ [])) second
+    ∙ put_before (g.D.Device.seen c.close_head.new.disk) (open_gate ∷ []) (opening c.args.sequence) c.args.region.now.at (omega (arith, c.requires.size))
+    ∙ put_over (g.D.Device.seen c.args.disk.now) (g.D.Device.seen c.close_head.new.disk) (started_text c.args.sequence) c.args.region.now.at 1
+    (omega (arith, long)) (c.close_head.ensures.others told)

@@ -1,6 +1,7 @@
 use Rattle.std.proofs.Common.{◌≡◌, ◌∙◌, ℕ, replicate, refl, sym, ap, subst}
 use Rattle.hse_io.specs.Faults.{next_count}
 use Rattle.device_layout.specs.declared.layout.Layout.{Layout}
+use Rattle.recovery.specs.DeviceText.{device_text}
 use Rattle.recovery.specs.Formatting.{IsStopped, first_loaded, third_call}
 use Rattle.recovery.specs.Image.{IsLoaded}
 use Rattle.recovery.proofs.NewLemmas.{layout_is, zeros_blank}
@@ -46,3 +47,10 @@ returns-clause-stopped g c = λ told image left.
     subst (λ (l : Layout). IsStopped l image) (sym (layout_is layout c.args.params.now c.in-Some.ensures.0 c.in-Some.ensures.1))
     (c.form.ensures.stopped told blank (c.in-Ok-give_size.ensures.durable told) image
     (subst (λ (n : ℕ). g.D.Device.could c.form.new.disk n image) clock left))
+
+pub returns-clause-bytes : goal.returns-clause-bytes
+returns-clause-bytes g c = λ told.
+    let layout = c.in-Some.layout in
+    subst (λ (l : Layout). g.D.Device.seen c.form.new.disk ≡ device_text l)
+    (sym (layout_is layout c.args.params.now c.in-Some.ensures.0 c.in-Some.ensures.1))
+    (c.in-Ok-form.ensures.bytes told (c.in-Ok-give_size.ensures.zeros told ∙ ap (λ (n : ℕ). replicate n 0) c.size-size.ensures))

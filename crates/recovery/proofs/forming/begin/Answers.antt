@@ -1,8 +1,9 @@
-use Rattle.std.proofs.Common.{◌+◌, ◌≤◌, inl, arith, ◌∷◌, [], List, ℕ, length, ap, sym, subst, ◌∙◌}
+use Rattle.std.proofs.Common.{◌≡◌, ◌+◌, ◌≤◌, inl, arith, ◌∷◌, [], List, ℕ, length, ap, sym, subst, ◌∙◌}
 use Rattle.std.proofs.lemmas.Result.{on_ok_weaker}
+use Rattle.media_disk.specs.Content.{put_at}
 use Rattle.media_disk.specs.Images.{MayLeave}
 use Rattle.media_disk.specs.laws.Leaves.{leaves_started, leaves_goes_on, leaves_joined, leaves_more}
-use Rattle.gate_log.specs.Gates.{IsWritten}
+use Rattle.gate_log.specs.Gates.{IsWritten, started_text}
 use Rattle.gate_log.specs.Places.{IsApart, region_of}
 use Rattle.device_layout.specs.Layouts.{half_of}
 use Rattle.recovery.specs.Formatting.{IsStopped}
@@ -53,3 +54,11 @@ returns-clause-crash g c = λ told blank none.
     (λ image left. stopped_start c.args.layout c.requires.good (laws.shut c.args.layout) (laws.started c.args.layout) (g.D.Device.seen now) blank
     (length c.args.block.now) c.requires.block (g.D.Device.seen written) image (g.D.Device.pending now) (g.D.Device.pending written)
     none (c.write.ensures.others told) pending left))
+
+pub returns-clause-bytes : goal.returns-clause-bytes
+returns-clause-bytes g c = λ told.
+    let place = (half_of c.args.layout 1).at in
+    on_ok_weaker c.start.result
+    (λ (is : g.D.Device.seen c.start.new.disk ≡ put_at (g.D.Device.seen c.write.new.self) place (started_text 1)).
+    is ∙ ap (λ (l : List ℕ). put_at l place (started_text 1)) (c.in_ok-write.ensures.written told))
+    (rw c.half.ensures at (c.start.ensures.bytes told))

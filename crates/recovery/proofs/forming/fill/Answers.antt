@@ -1,5 +1,8 @@
-use Rattle.std.proofs.Common.{◌≡◌, ◌≤◌, ◌∙◌, [], sym, subst, arith}
+use Rattle.std.proofs.Common.{◌≡◌, ◌+◌, ◌≤◌, ◌∙◌, ℕ, List, [], ◌∷◌, sym, ap, subst, arith}
+use Rattle.media_disk.specs.Content.{put_at}
 use Rattle.media_disk.specs.laws.Leaves.{leaves_more, leaves_joined}
+use Rattle.gate_log.specs.Framed.{framed}
+use Rattle.gate_log.specs.Gates.{open_gate, started_text}
 use Rattle.gate_log.specs.Places.{IsApart, tail_of}
 use Rattle.device_layout.specs.Layouts.{half_of}
 use Rattle.hse_rows.specs.machine.Sizes.{device_block}
@@ -73,3 +76,15 @@ returns-clause-crash g c = λ told block spelled is none.
     (second (subst (IsApart (log_region c.args.layout)) (sym empty) tt))
     (λ image left. stopped_within c.args.layout c.requires.good block spelled (log_region c.args.layout) (g.D.Device.seen added) image (g.D.Device.pending added)
     low_log (before_region (half_of c.args.layout 1) (g.D.Device.seen now) (g.D.Device.seen added) low torn ∙ is.head) (torn.as_long ∙ is.long) empty left.0))
+
+pub returns-clause-bytes : goal.returns-clause-bytes
+returns-clause-bytes g c = λ told.
+    let log = (log_region c.args.layout).at in
+    let frame = open_gate ∷ framed c.args.base.now in
+    let added : g.D.Device.seen c.append.new.disk ≡ put_at (g.D.Device.seen c.args.disk.now) ((half_of c.args.layout 1).at + c.args.tail.place) frame =
+    rw c.half.ensures at (c.in-Ok.ensures.bytes told) in
+    let started : g.D.Device.seen c.start.new.disk ≡ put_at (g.D.Device.seen c.append.new.disk) log (started_text 1) =
+    rw c.segment.ensures at (c.in_ok-start.ensures.bytes told) in
+    started
+    ∙ ap (λ (l : List ℕ). put_at l log (started_text 1))
+    (added ∙ ap (λ (n : ℕ). put_at (g.D.Device.seen c.args.disk.now) ((half_of c.args.layout 1).at + n) frame) c.requires.tail)
