@@ -1,5 +1,5 @@
 -- Parts of a tree in a row: which are filled, and which of them a row belongs to.
-use Rattle.std.specs.Prelude.{◌≡◌, ℕ, ◌<◌, ◌≤◌, suc, List, [], ◌∷◌, get_or, take, drop, length, ◌+◌, Option, Some, None}
+use Rattle.std.specs.Prelude.{◌≡◌, ℕ, ◌<◌, ◌≤◌, suc, List, [], ◌∷◌, ◌++◌, get_or, take, drop, length, ◌+◌, Option, Some, None}
 use Rattle.std.specs.List.{AllByRecursion, flat_map}
 use Rattle.std.specs.declared.cmp.Ordering.TheVariants.{Less}
 use Rattle.ingest_tree.specs.declared.store_row.StoreRow.{StoreRow}
@@ -9,6 +9,10 @@ use Rattle.ingest_tree.specs.Rows.{store_row_cmp}
 abbrev pub parts_of : {X : Type 0} → X → Option X → List X
 parts_of part None = part ∷ []
 parts_of part (Some other) = part ∷ other ∷ []
+
+-- the parts with what one of them became in its place
+abbrev pub grown_at : {X : Type 0} → ℕ → List X → X → Option X → List X
+grown_at i parts part other = take i parts ++ parts_of part other ++ drop (suc i) parts
 
 module _ {X : Type 0} (filled sound : X → Type 0) where
   -- each of several parts is filled; a lone one need not be

@@ -1,14 +1,21 @@
 //! The one builder of leaves, branches and roots.
-ghost use Rattle.std.specs.Prelude.{◌≡◌, ◌≤◌, ◌<◌, ◌+◌, ◌-◌, [], ◌∷◌, ◌++◌};
-ghost use Rattle.std.specs.Prelude.{length, take, drop, suc, IfOk, OnOk, vec_len};
-ghost use Rattle.ingest_tree.specs.Parts.{IsInOrder, parts_of};
+ghost use Rattle.std.specs.Prelude.{◌≡◌, ◌≤◌, ◌<◌, ◌+◌, [], ◌∷◌, ◌++◌, length, IfOk, OnOk};
+ghost use Rattle.ingest_tree.specs.Chunks.{IsSeat, joined, place_of};
+ghost use Rattle.ingest_tree.specs.Parts.{IsInOrder, grown_at, parts_of};
 
+use crate::chunk::{Chunk, Seat};
 use crate::part::{Grown, Part};
-use crate::shelf::{Shelf, Twin};
 use crate::steps::Steps;
 use hse_io::NoMemory;
 use std::alloc::Global;
 use std::sync::ledger::Ledger;
+
+/// What several owners share.
+pub(crate) trait Twin: Drop + Sized {
+    /// One more owner of the same.
+    fn share(&self) -> Result<Self, NoMemory>
+        ensures { IfOk result (λ twin. twin ≡ self.now) };
+}
 
 /// Parts in a row for two nodes. The first takes as many as `cut`, and the second the others.
 #[derive(Drop)]
@@ -57,35 +64,9 @@ impl<T: Twin> Builder<T> {
             ≡ (self.old.first.items ++ self.old.second.items) ++ parts.now) }
         ensures cut { self.new.cut ≡ self.old.cut }
         ensures cost { steps.new ≤ steps.old + length parts.now }
-        ensures ticks { OnOk result (steps.new ≡ steps.old + length parts.now) }
     {
         for part in parts {
             self.put(part.share()?, steps)?;
-        }
-        Ok(())
-    }
-}
-
-impl<T: Part> Builder<T> {
-    /// Puts twins of the parts from one place up to another behind the others.
-    fn put_range<L: Ledger>(
-        &mut self,
-        parts: &Shelf<T>,
-        from: usize,
-        to: usize,
-        steps: &mut Steps<L>,
-    ) -> Result<(), NoMemory>
-        requires order { from ≤ to }
-        requires within { to ≤ length parts.now }
-        ensures items { OnOk result (self.new.first.items ++ self.new.second.items
-            ≡ (self.old.first.items ++ self.old.second.items)
-            ++ take (to - from) (drop from parts.now)) }
-        ensures cut { self.new.cut ≡ self.old.cut }
-        ensures cost { steps.new ≤ steps.old + (to - from) }
-        ensures ticks { OnOk result (steps.new ≡ steps.old + (to - from)) }
-    {
-        for at in from..to {
-            self.put(parts.item(at).share()?, steps)?;
         }
         Ok(())
     }
@@ -100,7 +81,6 @@ impl<T: Part> Builder<T> {
             ≡ (self.old.first.items ++ self.old.second.items) ++ parts_of grown.0 grown.1) }
         ensures cut { self.new.cut ≡ self.old.cut }
         ensures cost { steps.new ≤ steps.old + length (parts_of grown.0 grown.1) }
-        ensures ticks { OnOk result (steps.new ≡ steps.old + length (parts_of grown.0 grown.1)) }
     {
         let (part, other) = grown;
         self.put(part, steps)?;
@@ -109,34 +89,54 @@ impl<T: Part> Builder<T> {
             None => Ok(()),
         }
     }
+
+    /// Puts twins of these parts behind the others, with what one of them became in its place.
+    fn put_with<L: Ledger>(
+        &mut self,
+        parts: &[T],
+        at: usize,
+        grown: Grown<T>,
+        steps: &mut Steps<L>,
+    ) -> Result<(), NoMemory>
+        requires { at < length parts.now }
+        ensures items { OnOk result (self.new.first.items ++ self.new.second.items
+            ≡ (self.old.first.items ++ self.old.second.items)
+            ++ grown_at at parts.now grown.0 grown.1) }
+        ensures cut { self.new.cut ≡ self.old.cut }
+        ensures cost { steps.new + 1
+            ≤ steps.old + (length parts.now + length (parts_of grown.0 grown.1)) }
+    {
+        let (before, rest) = parts.split_at(at);
+        let (_, behind) = rest.split_at(1);
+        self.put_all(before, steps)?;
+        self.put_grown(grown, steps)?;
+        self.put_all(behind, steps)
+    }
 }
 
-/// The parts with another in the place of one of them. Each is one step.
-pub(crate) fn put_in<T: Twin, L: Ledger>(
-    alloc: Global,
-    parts: &[T],
-    at: usize,
-    part: T,
-    steps: &mut Steps<L>,
-) -> Result<Vec<T>, NoMemory>
-    requires { at < length parts.now }
-    ensures items { IfOk result (λ new. new.items
-        ≡ take at parts.now ++ part ∷ drop (suc at) parts.now) }
-    ensures cost { steps.new ≤ steps.old + length parts.now }
-{
-    let (before, rest) = parts.split_at(at);
-    let (_, behind) = rest.split_at(1);
-    let mut builder = Builder::new(alloc, parts.len(), parts.len())?;
-    builder.put_all(before, steps)?;
-    builder.put(part, steps)?;
-    builder.put_all(behind, steps)?;
-    Ok(builder.first)
+impl<T: Part> Builder<T> {
+    /// Puts twins of all parts of these chunks behind the others.
+    fn put_chunks<L: Ledger>(
+        &mut self,
+        chunks: &[Chunk<T>],
+        steps: &mut Steps<L>,
+    ) -> Result<(), NoMemory>
+        ensures items { OnOk result (self.new.first.items ++ self.new.second.items
+            ≡ (self.old.first.items ++ self.old.second.items) ++ joined chunks.now) }
+        ensures cut { self.new.cut ≡ self.old.cut }
+        ensures cost { steps.new ≤ steps.old + length (joined chunks.now) }
+    {
+        for chunk in chunks {
+            self.put_all(chunk.parts(), steps)?;
+        }
+        Ok(())
+    }
 }
 
 /// The parts with what one of them became in its place. Each is one step.
-pub(crate) fn rebuilt<T: Part, L: Ledger>(
+pub(crate) fn rebuilt<T: Twin, L: Ledger>(
     alloc: Global,
-    parts: &Shelf<T>,
+    parts: &[T],
     at: usize,
     grown: Grown<T>,
     cut: usize,
@@ -144,15 +144,40 @@ pub(crate) fn rebuilt<T: Part, L: Ledger>(
 ) -> Result<Builder<T>, NoMemory>
     requires { at < length parts.now }
     ensures items { IfOk result (λ builder. builder.first.items ++ builder.second.items
-        ≡ take at parts.now ++ parts_of grown.0 grown.1 ++ drop (suc at) parts.now) }
+        ≡ grown_at at parts.now grown.0 grown.1) }
     ensures cut { IfOk result (λ builder. builder.cut ≡ cut) }
-    ensures cost { steps.new ≤ steps.old + (length parts.now + 1) }
-    ensures ticks { OnOk result (steps.new + 1
-        ≡ steps.old + (length parts.now + length (parts_of grown.0 grown.1))) }
+    ensures cost { steps.new + 1
+        ≤ steps.old + (length parts.now + length (parts_of grown.0 grown.1)) }
 {
     let mut builder = Builder::new(alloc, parts.len().saturating_add(1), cut)?;
-    builder.put_range(parts, 0, at, steps)?;
-    builder.put_grown(grown, steps)?;
-    builder.put_range(parts, at + 1, parts.len(), steps)?;
+    builder.put_with(parts, at, grown, steps)?;
+    Ok(builder)
+}
+
+/// The parts of the chunks, so many in all, with what one of them became in its place. Each is one
+/// step.
+pub(crate) fn spread<T: Part, L: Ledger>(
+    alloc: Global,
+    chunks: &[Chunk<T>],
+    seat: Seat,
+    grown: Grown<T>,
+    total: usize,
+    cut: usize,
+    steps: &mut Steps<L>,
+) -> Result<Builder<T>, NoMemory>
+    requires { IsSeat chunks.now seat.chunk seat.place }
+    ensures items { IfOk result (λ builder. builder.first.items ++ builder.second.items
+        ≡ grown_at (place_of chunks.now seat.chunk seat.place) (joined chunks.now)
+        grown.0 grown.1) }
+    ensures cut { IfOk result (λ builder. builder.cut ≡ cut) }
+    ensures cost { steps.new + 1
+        ≤ steps.old + (length (joined chunks.now) + length (parts_of grown.0 grown.1)) }
+{
+    let (before, rest) = chunks.split_at(seat.chunk);
+    let (_, behind) = rest.split_at(1);
+    let mut builder = Builder::new(alloc, total, cut)?;
+    builder.put_chunks(before, steps)?;
+    builder.put_with(chunks[seat.chunk].parts(), seat.place, grown, steps)?;
+    builder.put_chunks(behind, steps)?;
     Ok(builder)
 }

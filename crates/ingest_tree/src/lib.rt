@@ -2,14 +2,15 @@
 #![tactic(auto)]
 
 mod builder;
+mod chunk;
 mod iter;
 mod laws;
 mod lengths;
 mod mark;
 mod node;
 mod part;
+mod piece;
 mod search;
-mod shelf;
 mod steps;
 mod store_row;
 mod store_rows;

@@ -1,44 +1,51 @@
 //! A leaf or a branch: parts in a row, which several owners share.
-ghost use Rattle.std.specs.Prelude.{◌≡◌, ◌≤◌, ◌<◌, ◌+◌, ◌*◌, ◌^◌, [], ◌∷◌, ◌++◌, IfOk};
-ghost use Rattle.std.specs.Prelude.{length, take, drop, suc};
+ghost use Rattle.std.specs.Prelude.{◌≡◌, ◌≤◌, ◌<◌, ◌+◌, ◌*◌, ◌^◌, [], ◌∷◌, IfOk};
+ghost use Rattle.std.specs.Prelude.{length, take, None};
 ghost use Rattle.std.specs.List.{flat_map};
 ghost use Rattle.std.specs.Option.{option_map};
+ghost use Rattle.ingest_tree.specs.Chunks.{AreChunks, IsSeat, joined, place_of};
 ghost use Rattle.ingest_tree.specs.Rows.{AreRising, row_at, rows_with, found_at, count_before};
-ghost use Rattle.ingest_tree.specs.Marks.{first_mark};
-ghost use Rattle.ingest_tree.specs.Parts.{Stand, IsFinished, IsOver, parts_of};
+ghost use Rattle.ingest_tree.specs.Parts.{Stand, IsFinished, grown_at, parts_of};
 
-use crate::builder::{Builder, rebuilt};
+use crate::builder::{Builder, Twin, rebuilt, spread};
+use crate::chunk::{Chunk, Seat, cut_up, part_at};
 use crate::mark::Mark;
 use crate::part::{Grown, Part};
-use crate::search::child_at;
-use crate::shelf::{Shelf, Twin, mark_over};
+use crate::piece::{Piece, counted, counted_before, mark_over, piece_over};
+use crate::search::seat_of;
 use crate::steps::Steps;
 use crate::store_row::{SharedRow, Spot, StoreRow};
 use hse_io::NoMemory;
 use std::alloc::Global;
 use std::marker::Model;
+use std::sync::Arc;
 use std::sync::ledger::Ledger;
 
-/// Parts in a row, with how many rows they have and the mark of the first.
+/// Parts in a row, in chunks, with how many there are, how many rows they have and the mark of the
+/// first.
 #[derive(Drop)]
 pub(crate) struct Node<T: Part> {
-    parts: Shelf<T>,
+    chunks: Arc<Vec<Chunk<T>>>,
+    len: usize,
     count: u64,
     mark: Mark,
 }
 
 impl<T: Part> Model for Node<T> {
     ghost use Rattle.std.specs.Prelude.{◌≡◌, List, length};
+    ghost use Rattle.std.specs.Arc.{arc_value};
     ghost use Rattle.std.specs.List.{flat_map};
+    ghost use Rattle.ingest_tree.specs.Chunks.{AreChunks, joined};
+    ghost use Rattle.ingest_tree.specs.Marks.{first_mark};
 
     ghost Value = { List T };
 
-    ghost view = { λ n. n.parts };
+    ghost view = { λ n. joined (arc_value n.chunks).items };
 
-    ghost use Rattle.ingest_tree.specs.Marks.{first_mark};
-
-    ghost invariant = { λ n. (n.count ≡ length (flat_map T.rows n.parts))
-        × (n.mark ≡ first_mark T.marked n.parts) };
+    ghost invariant = { λ n. AreChunks (arc_value n.chunks).items
+        × (n.len ≡ length (joined (arc_value n.chunks).items))
+        × (n.count ≡ length (flat_map T.rows (joined (arc_value n.chunks).items)))
+        × (n.mark ≡ first_mark T.marked (joined (arc_value n.chunks).items)) };
 }
 
 /// A leaf, and a branch.
@@ -52,67 +59,71 @@ const MOST: usize = 128;
 /// How many parts the first of two has after a split.
 const HALF: usize = 64;
 
-/// How many rows these parts have.
-fn counted<T: Part>(parts: &[T]) -> Result<u64, NoMemory>
-    ensures { IfOk result (λ count. count ≡ length (flat_map T.rows parts.now)) }
-{
-    let mut count: u64 = 0;
-    for part in parts {
-        match count.checked_add(part.count()) {
-            Some(more) => count = more,
-            None => return Err(NoMemory),
-        }
-    }
-    Ok(count)
-}
-
-/// The mark of a node of this mark after a part came to this place.
-fn mark_after<T: Part>(old: Mark, at: usize, part: &T) -> Mark
-    ensures first { at ≡ 0 → result ≡ T.marked part.now }
-    ensures later { 0 < at → result ≡ old }
-{
-    if at == 0 { part.mark() } else { old }
-}
-
 impl<T: Part> Node<T> {
     /// A node of these parts.
     pub fn new(alloc: Global, parts: Vec<T>) -> Result<Node<T>, NoMemory>
         ensures { IfOk result (λ node. node ≡ parts.items) }
     {
-        let count = counted(&parts)?;
-        let mark = mark_over(&parts);
-        let parts = Shelf::new(alloc, parts)?;
-        Ok(Node { parts, count, mark })
+        let len = parts.len();
+        let chunks = cut_up(alloc, parts)?;
+        Node::of(alloc, chunks, len)
     }
 
-    /// The node with a part in place of another.
-    fn replaced<L: Ledger>(
-        &self,
-        alloc: Global,
-        at: usize,
-        part: T,
-        steps: &mut Steps<L>,
-    ) -> Result<Node<T>, NoMemory>
-        requires { at < length self.now }
-        ensures cost { steps.new ≤ steps.old + (length self.now + 1) }
-        ensures node { IfOk result (λ node.
-            node ≡ take at self.now ++ part ∷ drop (suc at) self.now) }
+    /// A node of these chunks of so many parts.
+    fn of(alloc: Global, chunks: Vec<Chunk<T>>, len: usize) -> Result<Node<T>, NoMemory>
+        requires chunks { AreChunks chunks.items }
+        requires len { len ≡ length (joined chunks.items) }
+        ensures { IfOk result (λ node. node ≡ joined chunks.items) }
     {
-        let others = self.count - self.parts.item(at).count();
-        let Some(count) = others.checked_add(part.count()) else {
-            return Err(NoMemory);
-        };
-        let mark = mark_after(self.mark, at, &part);
-        let parts = self.parts.with(alloc, at, part, steps)?;
-        Ok(Node { parts, count, mark })
+        let count = counted(&chunks)?;
+        let mark = mark_over(&chunks);
+        let chunks = Arc::new(alloc, chunks)?;
+        Ok(Node {
+            chunks,
+            len,
+            count,
+            mark,
+        })
     }
 
-    /// Its parts.
-    pub fn parts(&self) -> &Shelf<T>
-        ensures { result.now ≡ self.now }
+    /// Its chunks.
+    pub fn chunks(&self) -> &[Chunk<T>]
+        ensures parts { joined result.now ≡ self.now }
+        ensures chunks { AreChunks result.now }
     {
-        &self.parts
+        &self.chunks
     }
+
+    /// How many parts there are.
+    pub fn len(&self) -> usize
+        ensures { result ≡ length self.now }
+    {
+        self.len
+    }
+}
+
+/// The node of these chunks with what a part became in its place, of so many parts then. It shares
+/// all chunks but one. Each chunk, and each part of the new ones, is a step.
+fn regrown<T: Part, L: Ledger>(
+    alloc: Global,
+    chunks: &[Chunk<T>],
+    seat: Seat,
+    grown: Grown<T>,
+    len: usize,
+    steps: &mut Steps<L>,
+) -> Result<Node<T>, NoMemory>
+    requires chunks { AreChunks chunks.now }
+    requires seat { IsSeat chunks.now seat.chunk seat.place }
+    requires len { len + 1 ≡ length (joined chunks.now) + length (parts_of grown.0 grown.1) }
+    ensures node { IfOk result (λ node. node
+        ≡ grown_at (place_of chunks.now seat.chunk seat.place) (joined chunks.now)
+        grown.0 grown.1) }
+    ensures same { grown.1 ≡ None → steps.new ≤ steps.old + (length (joined chunks.now) + 1) }
+    ensures more { len ≤ 128 → steps.new ≤ steps.old + 129 }
+{
+    let chunk = chunks[seat.chunk].with(alloc, seat.place, grown, steps)?;
+    let builder = rebuilt(alloc, chunks, seat.chunk, chunk, len, steps)?;
+    Node::of(alloc, builder.first, len)
 }
 
 /// The node or the two nodes that the builder's parts make.
@@ -133,79 +144,41 @@ fn finished<T: Part>(alloc: Global, builder: Builder<T>) -> Result<Grown<Node<T>
     Ok((node, Some(other)))
 }
 
-/// The part at a place, and how many rows stand before it.
-fn part_over<T: Part>(parts: &Shelf<T>, place: u64) -> (usize, u64)
-    requires { place < length (flat_map T.rows parts.now) }
-    ensures { IsOver T.rows parts.now place result.0 result.1 }
+/// How many rows stand before a seat.
+fn counted_to<T: Part>(chunks: &[Chunk<T>], seat: Seat) -> u64
+    requires seat { IsSeat chunks.now seat.chunk seat.place }
+    requires fits { length (flat_map T.rows (joined chunks.now)) < 2 ^ 64 }
+    ensures { result ≡ length (flat_map T.rows
+        (take (place_of chunks.now seat.chunk seat.place) (joined chunks.now))) }
 {
-    let mut before: u64 = 0;
-    for at in 0..parts.len() {
-        let count = parts.item(at).count();
-        if place - before < count {
-            return (at, before);
-        }
-        before += count;
-    }
-    unreachable!()
-}
-
-/// How many rows stand in the first parts.
-fn counted_before<T: Part>(parts: &Shelf<T>, at: usize) -> u64
-    requires within { at ≤ length parts.now }
-    requires fits { length (flat_map T.rows parts.now) < 2 ^ 64 }
-    ensures { result ≡ length (flat_map T.rows (take at parts.now)) }
-{
-    let mut count: u64 = 0;
-    for i in 0..at {
-        count += parts.item(i).count();
-    }
-    count
-}
-
-/// How many parts the first node takes, where one of so many parts became two.
-fn cut_for(count: usize) -> usize
-    ensures whole { count < 128 → result ≡ 128 }
-    ensures halves { 128 ≤ count → result ≡ 64 }
-{
-    if count < MOST { MOST } else { HALF }
+    let parts = chunks[seat.chunk].parts();
+    counted_before(chunks, seat.chunk) + counted_before(parts, seat.place)
 }
 
 impl<T: Part> Twin for Node<T> {
     fn share(&self) -> Result<Node<T>, NoMemory> {
         Ok(Node {
-            parts: self.parts.share()?,
+            chunks: self.chunks.clone()?,
+            len: self.len,
             count: self.count,
             mark: self.mark,
         })
     }
 }
 
-impl<T: Part> Part for Node<T> {
+impl<T: Part> Piece for Node<T> {
     ghost use Rattle.std.specs.List.{flat_map};
-    ghost use Rattle.std.specs.Prelude.{◌*◌, ◌+◌};
-    ghost use Rattle.ingest_tree.specs.Parts.{IsSoundNode, IsFilledNode};
-    ghost use Rattle.ingest_tree.specs.laws.Filling.{filled-sound, filled-rows, sound-begins};
+    ghost use Rattle.ingest_tree.specs.Parts.{IsSoundNode};
+    ghost use Rattle.ingest_tree.specs.laws.Filling.{sound-begins, sound-marks};
+    ghost use Rattle.ingest_tree.specs.Marks.{first_mark};
 
     ghost rows = { λ node. flat_map T.rows node };
 
-    ghost filled = { λ node. IsFilledNode T.filled node };
-
     ghost sound = { λ node. IsSoundNode T.filled T.sound node };
 
-    ghost weight = { 64 * T.weight };
-
-    ghost cost = { T.cost + 129 };
-
-    ghost is_sound = { filled-sound T.filled T.sound T.is_sound };
-
-    ghost has_rows = { λ node. filled-rows T.filled T.sound T.is_sound T.rows T.weight T.has_rows node };
+    ghost marked = { first_mark T.marked };
 
     ghost begins = { λ node sound. sound-begins T.filled T.sound T.is_sound T.rows T.begins node sound.1 };
-
-    ghost use Rattle.ingest_tree.specs.Marks.{first_mark};
-    ghost use Rattle.ingest_tree.specs.laws.Filling.{sound-marks};
-
-    ghost marked = { first_mark T.marked };
 
     ghost has_mark = { λ node sound.
         sound-marks T.filled T.sound T.is_sound T.rows T.begins T.marked T.has_mark node sound.1 };
@@ -219,13 +192,31 @@ impl<T: Part> Part for Node<T> {
     }
 
     fn first(&self) -> &StoreRow {
-        self.parts().item(0).first()
+        self.chunks()[0].first()
     }
+}
+
+impl<T: Part> Part for Node<T> {
+    ghost use Rattle.std.specs.Prelude.{◌*◌, ◌+◌};
+    ghost use Rattle.ingest_tree.specs.Parts.{IsFilledNode};
+    ghost use Rattle.ingest_tree.specs.laws.Filling.{filled-sound, filled-rows};
+
+    ghost filled = { λ node. IsFilledNode T.filled node };
+
+    ghost weight = { 64 * T.weight };
+
+    ghost cost = { T.cost + 129 };
+
+    ghost is_sound = { filled-sound T.filled T.sound T.is_sound };
+
+    ghost has_rows = { λ node. filled-rows T.filled T.sound T.is_sound T.rows T.weight T.has_rows node };
 
     fn at(&self, place: u64) -> &StoreRow {
-        let parts = self.parts();
-        let (at, before) = part_over(parts, place);
-        parts.item(at).at(place - before)
+        let chunks = self.chunks();
+        let (at, before) = piece_over(chunks, place);
+        let parts = chunks[at].parts();
+        let (part, within) = piece_over(parts, place - before);
+        parts[part].at(place - before - within)
     }
 
     fn find(&self, spot: Spot<'_>) -> Option<&StoreRow> {
@@ -242,17 +233,27 @@ impl<T: Part> Part for Node<T> {
         row: SharedRow,
         steps: &mut Steps<L>,
     ) -> Result<Grown<Node<T>>, NoMemory> {
-        let parts = self.parts();
-        let at = child_at(parts, row.row().spot());
-        let (part, other) = parts.item(at).with(alloc, row, steps)?;
-        match other {
-            None => Ok((self.replaced(alloc, at, part, steps)?, None)),
-            Some(other) => {
-                let cut = cut_for(parts.len());
-                let builder = rebuilt(alloc, parts, at, (part, Some(other)), cut, steps)?;
-                finished(alloc, builder)
-            }
+        let chunks = self.chunks();
+        let seat = seat_of(chunks, row.row().spot());
+        let (part, other) = part_at(chunks, seat).with(alloc, row, steps)?;
+        let Some(other) = other else {
+            let node = regrown(alloc, chunks, seat, (part, None), self.len, steps)?;
+            return Ok((node, None));
+        };
+        if self.len < MOST {
+            let node = regrown(
+                alloc,
+                chunks,
+                seat,
+                (part, Some(other)),
+                self.len + 1,
+                steps,
+            )?;
+            return Ok((node, None));
         }
+        let total = self.len.saturating_add(1);
+        let builder = spread(alloc, chunks, seat, (part, Some(other)), total, HALF, steps)?;
+        finished(alloc, builder)
     }
 }
 
@@ -284,16 +285,16 @@ pub(crate) fn root_with<T: Part, L: Ledger>(
     ensures stands { IfOk result (λ node. Stand T.filled T.sound node) }
     ensures cost { steps.new ≤ steps.old + (T.cost + (length root.now + 1)) }
 {
-    let parts = root.parts();
-    let Some(cut) = parts.len().checked_add(1) else {
+    let chunks = root.chunks();
+    let Some(cut) = root.len().checked_add(1) else {
         return Err(NoMemory);
     };
-    let at = child_at(parts, row.row().spot());
-    let (part, other) = parts.item(at).with(alloc, row, steps)?;
+    let seat = seat_of(chunks, row.row().spot());
+    let (part, other) = part_at(chunks, seat).with(alloc, row, steps)?;
     match other {
-        None => root.replaced(alloc, at, part, steps),
+        None => regrown(alloc, chunks, seat, (part, None), root.len(), steps),
         Some(other) => {
-            let builder = rebuilt(alloc, parts, at, (part, Some(other)), cut, steps)?;
+            let builder = spread(alloc, chunks, seat, (part, Some(other)), cut, cut, steps)?;
             Node::new(alloc, builder.first)
         }
     }
@@ -307,8 +308,8 @@ impl<T: Part> Node<T> {
         ensures { option_map (λ row. row.now) result
             ≡ found_at (row_at spot.entry) (flat_map T.rows self.now) }
     {
-        let parts = self.parts();
-        parts.item(child_at(parts, spot)).find(spot)
+        let chunks = self.chunks();
+        part_at(chunks, seat_of(chunks, spot)).find(spot)
     }
 
     /// How many rows stand before this spot, where there may be any number of parts.
@@ -318,8 +319,8 @@ impl<T: Part> Node<T> {
         ensures { result ≡ count_before (row_at spot.entry) (flat_map T.rows self.now) }
     {
         let _all = self.count;
-        let parts = self.parts();
-        let at = child_at(parts, spot);
-        counted_before(parts, at) + parts.item(at).place(spot)
+        let chunks = self.chunks();
+        let seat = seat_of(chunks, spot);
+        counted_to(chunks, seat) + part_at(chunks, seat).place(spot)
     }
 }

@@ -9,8 +9,9 @@ ghost use Rattle.ingest_tree.specs.Parts.{parts_of, Grows};
 ghost use Rattle.ingest_tree.specs.Marks.{mark_of};
 ghost use Rattle.ingest_tree.specs.declared.mark.Mark.{Mark as a_mark};
 
+use crate::builder::Twin;
 use crate::mark::Mark;
-use crate::shelf::Twin;
+use crate::piece::Piece;
 use crate::steps::Steps;
 use crate::store_row::{SharedRow, Spot, StoreRow};
 use hse_io::NoMemory;
@@ -21,16 +22,10 @@ use std::sync::ledger::Ledger;
 /// A part, and the second of the two that it was split into.
 pub(crate) type Grown<T> = (T, Option<T>);
 
-/// Rows in order that stand together.
-pub(crate) trait Part: Twin + Drop + Sized {
-    /// The rows, however they are kept.
-    ghost rows: { Self → List a_row };
-
+/// A piece that takes one row more by becoming another, or two.
+pub(crate) trait Part: Piece + Twin {
     /// Whether each node in it has at least half its room full.
     ghost filled: { Self → Type 0 };
-
-    /// Whether each node has a part, none too many, and is filled where it is not alone.
-    ghost sound: { Self → Type 0 };
 
     /// How many rows a filled one has at least.
     ghost weight: { ℕ };
@@ -38,39 +33,23 @@ pub(crate) trait Part: Twin + Drop + Sized {
     /// How many steps one more row takes at most.
     ghost cost: { ℕ };
 
-    /// The mark of the first row.
-    ghost marked: { Self → a_mark };
-
-    /// The mark of the first row.
-    fn mark(&self) -> Mark
-        ensures { result ≡ marked self.now };
-
-    /// How many rows there are.
-    fn count(&self) -> u64
-        ensures { result ≡ length (rows self.now) };
-
-    /// The first row.
-    fn first(&self) -> &StoreRow
-        requires { sound self.now }
-        ensures { slice_get (rows self.now) 0 ≡ Some result.now };
-
     /// The row at a place.
     fn at(&self, place: u64) -> &StoreRow
-        requires { place < length (rows self.now) }
-        ensures { slice_get (rows self.now) place ≡ Some result.now };
+        requires { place < length (Self.rows self.now) }
+        ensures { slice_get (Self.rows self.now) place ≡ Some result.now };
 
     /// The row at this spot.
     fn find(&self, spot: Spot<'_>) -> Option<&StoreRow>
-        requires sound { sound self.now }
-        requires rising { AreRising (rows self.now) }
+        requires sound { Self.sound self.now }
+        requires rising { AreRising (Self.rows self.now) }
         ensures { option_map (λ row. row.now) result
-            ≡ found_at (row_at spot.entry) (rows self.now) };
+            ≡ found_at (row_at spot.entry) (Self.rows self.now) };
 
     /// How many rows stand before this spot.
     fn place(&self, spot: Spot<'_>) -> u64
-        requires sound { sound self.now }
-        requires rising { AreRising (rows self.now) }
-        ensures { result ≡ count_before (row_at spot.entry) (rows self.now) };
+        requires sound { Self.sound self.now }
+        requires rising { AreRising (Self.rows self.now) }
+        ensures { result ≡ count_before (row_at spot.entry) (Self.rows self.now) };
 
     /// The part with one more row, in place of the one that it ties with. The old part stays.
     fn with<L: Ledger>(
@@ -79,21 +58,16 @@ pub(crate) trait Part: Twin + Drop + Sized {
         row: SharedRow,
         steps: &mut Steps<L>,
     ) -> Result<Grown<Self>, NoMemory>
-        requires sound { sound self.now }
-        requires rising { AreRising (rows self.now) }
-        ensures rows { IfOk result (λ grown. flat_map rows (parts_of grown.0 grown.1)
-            ≡ rows_with (rows self.now) row) }
-        ensures grows { IfOk result (λ grown. Grows filled sound self.now grown.0 grown.1) }
+        requires sound { Self.sound self.now }
+        requires rising { AreRising (Self.rows self.now) }
+        ensures rows { IfOk result (λ grown. flat_map Self.rows (parts_of grown.0 grown.1)
+            ≡ rows_with (Self.rows self.now) row) }
+        ensures grows { IfOk result (λ grown. Grows filled Self.sound self.now grown.0 grown.1) }
         ensures cost { steps.new ≤ steps.old + cost };
 
-    ghost is_sound: { (part : Self) → filled part → sound part };
+    ghost is_sound: { (part : Self) → filled part → Self.sound part };
 
-    ghost has_rows: { (part : Self) → filled part → weight ≤ length (rows part) };
-
-    ghost begins: { (part : Self) → sound part → 0 < length (rows part) };
-
-    ghost has_mark: { (part : Self) → sound part → (row : a_row)
-        → slice_get (rows part) 0 ≡ Some row → marked part ≡ mark_of row };
+    ghost has_rows: { (part : Self) → filled part → weight ≤ length (Self.rows part) };
 }
 
 impl Twin for SharedRow {
@@ -102,28 +76,16 @@ impl Twin for SharedRow {
     }
 }
 
-impl Part for SharedRow {
-    ghost use Rattle.std.specs.Prelude.{⊤};
-
+impl Piece for SharedRow {
     ghost rows = { λ row. row ∷ [] };
 
-    ghost filled = { λ row. Unit {0} };
-
     ghost sound = { λ row. Unit {0} };
-
-    ghost weight = { 1 };
-
-    ghost cost = { 0 };
 
     ghost use Rattle.ingest_tree.specs.Marks.{mark_of};
 
     ghost marked = { mark_of };
 
-    ghost is_sound = { λ part filled. tt };
-
     ghost use Rattle.std.proofs.Common.{rules};
-
-    ghost has_rows = { λ part filled. Prim.search rules };
 
     ghost begins = { λ part sound. Prim.search rules };
 
@@ -142,6 +104,22 @@ impl Part for SharedRow {
     fn first(&self) -> &StoreRow {
         self.row()
     }
+}
+
+impl Part for SharedRow {
+    ghost use Rattle.std.specs.Prelude.{⊤};
+
+    ghost filled = { λ row. Unit {0} };
+
+    ghost weight = { 1 };
+
+    ghost cost = { 0 };
+
+    ghost is_sound = { λ part filled. tt };
+
+    ghost use Rattle.std.proofs.Common.{rules};
+
+    ghost has_rows = { λ part filled. Prim.search rules };
 
     fn at(&self, _place: u64) -> &StoreRow {
         self.row()

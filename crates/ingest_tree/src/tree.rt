@@ -1,5 +1,5 @@
 //! Rows of several stores in a tree of shared leaves and branches.
-ghost use Rattle.std.specs.Prelude.{◌≡◌, ◌≤◌, ◌+◌, ◌*◌, ◌/◌, ◌<◌};
+ghost use Rattle.std.specs.Prelude.{◌≡◌, ◌≤◌, ◌+◌, ◌*◌, ◌/◌, ◌<◌, ◌^◌};
 ghost use Rattle.std.specs.Prelude.{[], ◌∷◌, length, reverse, slice_get, Some, IfOk};
 ghost use Rattle.std.specs.Option.{option_map};
 ghost use Rattle.hse_rows.specs.rows.Meaning.{own_at, covered_at, greater as greatest_of};
@@ -11,11 +11,12 @@ ghost use Rattle.ingest_tree.specs.Iteration.{left_of};
 ghost use Rattle.ingest_tree.specs.Parts.{Stand};
 ghost use Rattle.ingest_tree.specs.Tree.{AreRowsOfStores, IsFilledBranch, IsSoundBranch, leaves_of};
 
+use crate::builder::Twin;
 use crate::iter::IngestIter;
 use crate::lengths::Lengths;
 use crate::node::{Branch, Node, lone, root_with};
 use crate::part::Part;
-use crate::shelf::Twin;
+use crate::piece::Piece;
 use crate::steps::Steps;
 use crate::store_row::{SharedRow, Spot, StoreRow};
 use crate::store_rows::StoreRows;
@@ -59,16 +60,28 @@ fn first_root<L: Ledger>(
     lone(alloc, branch, steps)
 }
 
+/// How many leaves these branches have.
+fn leaves_in(branches: &[Branch]) -> u64
+    requires { length (leaves_of branches.now) < 2 ^ 64 }
+    ensures { result ≡ length (leaves_of branches.now) }
+{
+    let mut count: u64 = 0;
+    for at in 0..branches.len() {
+        count += branches[at].len() as u64;
+    }
+    count
+}
+
 /// How many leaves a root has.
 fn leaf_count(root: &Node<Branch>) -> u64
     requires stands { Stand IsFilledBranch IsSoundBranch root.now }
     ensures { result ≡ length (leaves_of root.now) }
 {
     let _all = root.count();
-    let branches = root.parts();
+    let chunks = root.chunks();
     let mut count: u64 = 0;
-    for at in 0..branches.len() {
-        count += branches.item(at).parts().len() as u64;
+    for at in 0..chunks.len() {
+        count += leaves_in(chunks[at].parts());
     }
     count
 }

@@ -12,6 +12,20 @@ front-get : {X : Type 0} (xs ys : List X) → 0 < length xs → slice_get (xs ++
 front-get [] ys some = absurd (omega arith)
 front-get (x ∷ xs) ys some = refl
 
+-- pieces that are sound have a row where there are some, and the first of its marks is that of the first row
+module _ {X : Type 0} (sound : X → Type 0) (rows : X → List StoreRow) (begins : (part : X) → sound part → 0 < length (rows part)) where
+  pub some-begin : (ps : List X) → 0 < length ps → AllByRecursion sound ps → 0 < length (flat_map rows ps)
+  some-begin [] some all = absurd (omega (arith, some))
+  some-begin (p ∷ ps) some all =
+      let one = begins p all.0 in
+      let sum = length-append (rows p) (flat_map rows ps) in
+      omega (arith, one, sum)
+
+  pub some-marks : (mark : X → Mark) → ((part : X) → sound part → (row : StoreRow) → slice_get (rows part) 0 ≡ Some row → mark part ≡ mark_of row)
+      → (ps : List X) → 0 < length ps → AllByRecursion sound ps → (row : StoreRow) → slice_get (flat_map rows ps) 0 ≡ Some row → first_mark mark ps ≡ mark_of row
+  some-marks mark has [] some all row at = absurd (omega (arith, some))
+  some-marks mark has (p ∷ ps) some all row at = has p all.0 row (sym (front-get (rows p) (flat_map rows ps) (begins p all.0)) ∙ at)
+
 module _ {X : Type 0} (filled sound : X → Type 0) (is_sound : (part : X) → filled part → sound part) where
   pub all-stand : (ps : List X) → 1 < length ps → AllByRecursion filled ps → Stand filled sound ps
   all-stand [] some all = absurd (omega arith)

@@ -1,8 +1,0 @@
-use Rattle.std.proofs.Common.{◌≡◌, ◌≤◌, take, length}
-use Rattle.std.specs.List.{flat_map}
-use Rattle.ingest_tree.proofs.node.part_over.Given as goal
-
-abbrev pub invariant-loop-at : goal.invariant-loop-at
-invariant-loop-at g l =
-    let rows = g.T.Part.rows in
-    (l.before ≡ length (flat_map rows (take l.at l.fn.parts))) × (l.before ≤ l.fn.place)
