@@ -1,0 +1,5 @@
+mod DeviceLemmas
+mod HeldLemmas
+mod TurnLemmas
+mod ReopenLemmas
+mod CloseLemmas

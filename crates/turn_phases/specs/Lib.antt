@@ -1,0 +1,9 @@
+pub mod HeldTurns
+pub mod Devices
+pub mod Faults
+pub mod Serves
+pub mod Steps
+pub mod Turns
+pub mod Starting
+pub mod Reopening
+pub mod Closing
