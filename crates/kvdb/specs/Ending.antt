@@ -27,6 +27,12 @@ abbrev pub RoseWhere : ℕ → ℕ → Bool → Type 0
 RoseWhere old new false = new ≡ old
 RoseWhere old new true = Rose old new
 
+-- the turn's number, where no device call failed; else the engine is broken
+abbrev pub IsEnded : Bool → ℕ → Result ℕ Broken → Bool → Type 0
+IsEnded false number result is_broken = result ≡ Ok number
+IsEnded true number (Ok told) is_broken = ⊥
+IsEnded true number (Err fault) is_broken = is_broken ≡ true
+
 -- The turn's number, where no device call failed; else the engine is broken, and the turn is given back.
 abbrev pub Ends : {D : Type 0} (g : Ghosts D) → Core → Result ℕ Broken → Kvdb D g → Type 0
 Ends g m (Ok number) new =

@@ -4,7 +4,7 @@ ghost use Rattle.hse_rows.specs.machine.Core.{Core};
 ghost use Rattle.hse_rows.specs.machine.Calls.{write_turn};
 ghost use Rattle.hse_rows.specs.machine.CoreDone.{failing};
 ghost use Rattle.engine_state.specs.Serves.{IsSound};
-ghost use Rattle.kvdb.specs.Ending.{Ends, IsTaken};
+ghost use Rattle.kvdb.specs.Ending.{Ends, IsEnded, IsTaken};
 ghost use Rattle.kvdb.specs.Serves.{Serves};
 ghost use Rattle.kvdb.specs.Turns.{RanOf};
 ghost use Rattle.kvdb.specs.declared.side.Side.TheVariants as side;
@@ -34,13 +34,18 @@ impl<D: Disk> Kvdb<D> {
     }
 
     /// Gives a turn back that has run, and answers its number; then all up to it is safe. `Broken` comes
-    /// exactly where a device call of it failed. It takes no memory and makes no device call.
+    /// exactly where a device call of it failed, and then the engine is broken. It takes no memory and makes
+    /// no device call.
     ///
     /// The condition: this turn is out of this engine.
     pub fn end_turn(&mut self, ran: Ran<D>) -> Result<u64, Broken>
         requires out { self.old.side ≡ side.Out ran.kind ran.number }
         ensures ends { (m : Core) → IsSound m → Serves D.Device self.old m → RanOf D.Device ran m
             → Ends D.Device m result self.new }
+        ensures failed { IsEnded ran.has_failed ran.number result self.new.state.is_broken }
+        ensures unmarked { (m : Core) → IsSound m → IsTaken m → Serves D.Device self.old m
+            → ran.has_failed ≡ true → RanOf D.Device ran (failing m write_turn)
+            → Ends D.Device (failing m write_turn) result self.new }
         ensures home { self.new.side ≡ side.In ran.back }
         ensures moment { self.new.moment ≡ self.old.moment }
     {
