@@ -79,3 +79,9 @@ abbrev pub WholeReports : ℕ → ℕ → Result ℕ WholeFault → Type 0
 WholeReports old new (Ok number) = new ≡ old
 WholeReports old new (Err (whole_fault.Refused fault)) = new ≡ old
 WholeReports old new (Err whole_fault.Device) = Rose old new
+
+-- a turn that was not taken leaves the device as it was
+abbrev pub StaysRefused : {D : Type 0} → D → D → Result ℕ WholeFault → Type 0
+StaysRefused old new (Ok number) = Unit {0}
+StaysRefused old new (Err (whole_fault.Refused fault)) = new ≡ old
+StaysRefused old new (Err whole_fault.Device) = Unit {0}

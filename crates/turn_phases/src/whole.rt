@@ -8,7 +8,7 @@ ghost use Rattle.kvdb.specs.Found.{StoresFrom};
 ghost use Rattle.kvdb.specs.Taking.{wish_as};
 ghost use Rattle.turn_phases.specs.Devices.{device_of};
 ghost use Rattle.turn_phases.specs.Serves.{PhasesServe};
-ghost use Rattle.turn_phases.specs.Turns.{TurnsWhole, WholeReports, taken_for};
+ghost use Rattle.turn_phases.specs.Turns.{StaysRefused, TurnsWhole, WholeReports, taken_for};
 
 use crate::faults::WholeFault;
 use crate::phases::TurnPhases;
@@ -32,6 +32,7 @@ impl<D: Disk> TurnPhases<D> {
         ensures calls { CallsMade D.Device (device_of self.old) (device_of self.new) }
         ensures reports { (m : Core) → PhasesServe D.Device self.old m
             → WholeReports (D.faults (device_of self.old)) (D.faults (device_of self.new)) result }
+        ensures refused { StaysRefused (device_of self.old) (device_of self.new) result }
         ensures moment { self.new.db.moment ≡ self.old.db.moment }
     {
         steps_keep_states_sound();

@@ -1,0 +1,7 @@
+pub mod StoryLemmas
+pub mod MarkLemmas
+pub mod ServeLemmas
+pub mod EndLemmas
+pub mod WholeLemmas
+pub mod CloseLemmas
+pub mod ReopenLemmas

@@ -1,0 +1,9 @@
+pub mod Stories
+pub mod Keeping
+pub mod Goes
+pub mod Marks
+pub mod Serves
+pub mod Steps
+pub mod Turns
+pub mod Openings
+pub mod Endings
