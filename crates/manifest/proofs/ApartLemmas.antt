@@ -192,7 +192,7 @@ record IsNewStore (stores : List LiveStore) (id : ℕ) (store : LiveStore) : Typ
   id_is : store.id ≡ id
   free : is_used store.name stores ≡ false
 
-not_true : (b : Bool) → not b ≡ true → b ≡ false
+pub not_true : (b : Bool) → not b ≡ true → b ≡ false
 not_true true is = absurd cc
 not_true false is = refl
 
@@ -313,7 +313,7 @@ chosen : {A : Type 0} (P : A → Type 0) (b : Bool) (one other : Result A ℕ) (
 chosen {A = A} P true one other x e first second = first e
 chosen {A = A} P false one other x e first second = second e
 
-refused_ok : {A : Type 0} (left : ℕ) (x : A) → Err left ≡ Ok x → ⊥
+pub refused_ok : {A : Type 0} (left : ℕ) (x : A) → Err left ≡ Ok x → ⊥
 refused_ok {A = A} left x e = cc
 
 entry_apart : (most : ℕ) (before : Option Metadata) (kind left : ℕ) (bytes : List ℕ) (x : Metadata × List ℕ) → AreApartIf before

@@ -8,3 +8,4 @@ pub mod LogLemmas
 pub mod RollLemmas
 pub mod EachImage
 pub mod FirstLemmas
+pub mod SpelledLemmas

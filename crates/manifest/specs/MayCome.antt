@@ -5,7 +5,7 @@ use Rattle.hse_rows.specs.writes.Lengths.{longest_prefix}
 use Rattle.hse_rows.specs.writes.Names.{IsName}
 use Rattle.manifest.specs.Metadata.{LiveStore, Metadata, greatest_number, last_of_run, is_used, is_live, may_be_number, with_store, without_store}
 use Rattle.manifest.specs.Reading.{may_be_next}
-use Rattle.manifest.specs.Text.{Entry, base, create, drop}
+use Rattle.manifest.specs.Text.{Entry, base, create, drop, entry_text}
 
 -- a store with a name that none of these has
 pub record IsDescribed (stores : List LiveStore) (store : LiveStore) : Type 0 where
@@ -67,3 +67,10 @@ after before (base m) = Some m
 after (Some m) (create store) = Some (with_store m store.id store)
 after (Some m) (drop number id) = Some (without_store m number id)
 after None entry = None
+
+-- The payload is the text of an entry that may come, behind which these are the metadata.
+pub record SpellsEntry (most : ℕ) (before : Option Metadata) (payload : List ℕ) (m : Metadata) : Type 0 where
+  pub entry : Entry
+  pub may : MayCome most before entry
+  pub after_is : after before entry ≡ Some m
+  pub spelled : payload ≡ entry_text entry

@@ -10,7 +10,7 @@ ghost use Rattle.hse_rows.specs.machine.ManifestRoom.{creation_bytes, drop_bytes
 ghost use Rattle.hse_rows.specs.machine.TakenRuns.{runs_of};
 ghost use Rattle.hse_rows.specs.states.State.{Store};
 ghost use Rattle.manifest.specs.Half.{HasReading, Holds, IsMetadata, IsRefused};
-ghost use Rattle.manifest.specs.MayCome.{MayCome, after};
+ghost use Rattle.manifest.specs.MayCome.{MayCome, SpellsEntry, after};
 ghost use Rattle.manifest.specs.Machine.{live_of};
 ghost use Rattle.manifest.specs.Metadata.{LiveStore, Metadata, with_taken};
 ghost use Rattle.manifest.specs.Reading.{payload_of};
@@ -39,6 +39,14 @@ pub fn entries_are_read()
     ensures { (most : ℕ) (before : Option Metadata) (entry : Entry) (m : Metadata)
         → MayCome most before entry → after before entry ≡ Some m
         → payload_of most before (entry_text entry) ≡ Ok m }
+{}
+
+/// What is read of a payload is spelled so, of an entry that may come. So a payload that is no such
+/// entry's text is refused.
+pub fn read_entries_are_spelled()
+    ensures { (most : ℕ) (before : Option Metadata) (payload : List ℕ) (m : Metadata)
+        → IsBytes payload → payload_of most before payload ≡ Ok m
+        → SpellsEntry most before payload m }
 {}
 
 /// Entries are as long as the machine counts them, and a creation's or a drop's number joins the

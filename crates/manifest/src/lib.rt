@@ -26,7 +26,7 @@ pub use entry::Entry;
 pub use fault::ManifestFault;
 pub use laws::{
     entries_are_as_the_machine_counts, entries_are_read, first_bases_are_in_force,
-    manifests_have_one_reading,
+    manifests_have_one_reading, read_entries_are_spelled,
 };
 pub use loaded::{LoadFault, Loaded};
 pub use loading::load;
