@@ -13,8 +13,9 @@ use std::alloc::Global;
 impl<D: Disk> Back<D> {
     /// Plans a creation or a drop, after which the stores are those of the base: the entry is
     /// logged where the half in force has room for it, and else the manifest rolls to the base. It
-    /// takes all the memory that the turn needs and makes no device call. `ManifestFull` comes
-    /// exactly where neither has room, or no greater sequence is left for a roll; `Full` never.
+    /// takes all the memory that the turn needs and makes no device call. `ManifestFull` comes only
+    /// where neither has room, or no greater sequence is left for a roll; out of memory may come in
+    /// its place. `Full` never comes.
     ///
     /// The conditions: the entry and the base have fewer than 2^32 bytes.
     pub fn plan_entry(

@@ -10,7 +10,7 @@ use Rattle.hse_rows.specs.writes.NormalForm.{same}
 use Rattle.hse_rows.specs.states.State.{Store, State, store_named}
 use Rattle.hse_rows.specs.transactions.Transaction.{Transaction}
 use Rattle.hse_rows.specs.transactions.Timeline.{for_some}
-use Rattle.hse_rows.specs.machine.Replies.{Refusal, Listed, store_exists, no_store, prefix_length, broken, too_many, spent, store_held}
+use Rattle.hse_rows.specs.machine.Replies.{Refusal, store_exists, no_store, prefix_length, broken, too_many, spent, store_held}
 use Rattle.hse_rows.specs.machine.Core.{Core, now, number_of, greatest_number}
 use Rattle.hse_rows.specs.machine.CoreRefusal.{refuse, is_spent, unless_held, first_in_store}
 use Rattle.ingest_tree.specs.declared.store_row.StoreRow.{StoreRow}
@@ -18,7 +18,7 @@ use Rattle.view.specs.declared.view_store.ViewStore.{ViewStore}
 use Rattle.view.specs.Views.{ViewState}
 use Rattle.view.specs.Means.{store_in}
 use Rattle.engine_state.specs.Serves.{ViewServes}
-use Rattle.engine_state.specs.Stores.{create_front, drop_front, listed_of, listed}
+use Rattle.engine_state.specs.Stores.{create_front, drop_front}
 use Rattle.engine_state.proofs.RefusalLemmas.{passed, stopped, is-le, is-not_le}
 use Rattle.engine_state.proofs.SoundLemmas.{named-in}
 
@@ -96,11 +96,3 @@ module _ {R : Type 0} (g : Ghosts R) where
   is-full view m v most is =
       ap (λ (n : ℕ). nat_le n (length (now m).stores)) (sym is)
       ∙ ap (nat_le most) (ap (λ (s : State). length s.stores) (sym v.state) ∙ length-map view.stores (store_in g.rows view.layers))
-
-  -- the machine's stores as they are listed
-  listed-in : (layers : List (List StoreRow)) (stores : List (ViewStore R)) → map listed_of stores ≡ map listed (map (store_in g.rows layers) stores)
-  listed-in layers [] = refl
-  listed-in layers (store ∷ stores) = ap (λ (l : List Listed). listed_of store ∷ l) (listed-in layers stores)
-
-  pub listed-stores : (view : ViewState R) (m : Core) → ViewServes g view m → map listed_of view.stores ≡ map listed (now m).stores
-  listed-stores view m v = listed-in view.layers view.stores ∙ ap (λ (s : State). map listed s.stores) v.state

@@ -8,7 +8,7 @@ use Rattle.hse_rows.specs.states.State.{Store, store_named}
 use Rattle.hse_rows.specs.transactions.Moves.{Move}
 use Rattle.hse_rows.specs.transactions.Moves as moves
 use Rattle.hse_rows.specs.transactions.Timeline.{for_some}
-use Rattle.hse_rows.specs.machine.Replies.{Refusal, Listed, store_exists, no_store, prefix_length, broken, too_many, spent, store_held}
+use Rattle.hse_rows.specs.machine.Replies.{Refusal, store_exists, no_store, prefix_length, broken, too_many, spent, store_held}
 use Rattle.hse_rows.specs.machine.Core.{Core, now, number_of, with_move}
 use Rattle.hse_rows.specs.machine.CoreRefusal.{refuse, is_spent, unless_held, first_in_store}
 use Rattle.view.specs.declared.view_store.ViewStore.{ViewStore}
@@ -93,14 +93,6 @@ new_in view name mode prefix = record {
 -- one store more, in place of any of its id
 abbrev pub with_new : {R : Type 0} → ViewState R → ViewStore R → ViewState R
 with_new view store = with_stores view (but store.id.0 view.stores ++ store ∷ [])
-
--- ---- as `stores` lists them
-
-abbrev pub listed_of : {R : Type 0} → ViewStore R → Listed
-listed_of store = record { name = store.name; mode = store.mode; prefix_length = store.prefix }
-
-abbrev pub listed : Store → Listed
-listed store = record { name = store.name; mode = store.mode; prefix_length = store.prefix_length }
 
 module _ {R : Type 0} (g : Ghosts R) where
   -- The front refuses nothing, and the event is the creation; or the fault is the first of the front.

@@ -92,6 +92,8 @@ impl<R: Shared> EngineState<R> {
     /// Where it made writes, `Broken` comes exactly where the engine is broken, else `Spent` exactly
     /// where the last number is 2^62, else `LogFull` exactly where the segment has less room left than
     /// the commit takes, with both. After a fault engine and transaction are as before.
+    ///
+    /// This is promised of a transaction that this state began since its opening.
     pub fn commit(&mut self, alloc: Global, txn: &mut Txn<R>) -> Result<u64, CommitFault>
         ensures step { (m : Core) (transaction : Transaction) → IsSound m → Serves R.RowSet self.old m
             → IsTxnOf R.RowSet txn.old m.timeline transaction

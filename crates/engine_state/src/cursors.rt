@@ -33,6 +33,8 @@ impl<R: Shared> EngineState<R> {
     }
 
     /// A cursor is gone. It takes no memory.
+    ///
+    /// This is promised of a place that this state gave since its opening.
     pub fn give_place(&mut self, _place: CursorPlace)
         ensures { (m : Core) → Serves R.RowSet self.old m
             → Serves R.RowSet self.new (done m call.give_place) }

@@ -75,7 +75,9 @@ impl<R: Shared> EngineState<R> {
     }
 
     /// Ends a transaction without its writes. A fault says how it ended before, and comes exactly where
-    /// it did. It takes no memory.
+    /// it did; then the transaction is as before. It takes no memory.
+    ///
+    /// This is promised of a transaction that this state began since its opening.
     pub fn abort(&mut self, txn: &mut Txn<R>) -> Result<(), TxnState>
         ensures step { (m : Core) (transaction : Transaction) → IsSound m → Serves R.RowSet self.old m
             → IsTxnOf R.RowSet txn.old m.timeline transaction

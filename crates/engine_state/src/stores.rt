@@ -1,14 +1,14 @@
 //! Stores that come and go.
-ghost use Rattle.std.specs.Prelude.{◌≡◌, ◌+◌, ◌≤◌, ◌<◌, ◌^◌, ℕ, nat_le, nat_lt, length, None, map, IfOk};
+ghost use Rattle.std.specs.Prelude.{◌≡◌, ◌+◌, ◌≤◌, ◌<◌, ◌^◌, ℕ, nat_le, nat_lt, length, None, IfOk};
 ghost use Rattle.std.specs.List.{find};
 ghost use Rattle.hse_rows.specs.writes.Lengths.{longest_prefix};
 ghost use Rattle.hse_rows.specs.writes.NormalForm.{same};
 ghost use Rattle.hse_rows.specs.states.State.{Store as a_store};
 ghost use Rattle.hse_rows.specs.transactions.Moves.{Move};
-ghost use Rattle.hse_rows.specs.machine.Core.{Core, now, number_of, with_move};
+ghost use Rattle.hse_rows.specs.machine.Core.{Core, number_of, with_move};
 ghost use Rattle.engine_state.specs.Serves.{IsSound, Serves, ServesAbove, ViewServes};
 ghost use Rattle.engine_state.specs.Stores.{SaysCreate, SaysDrop, create_front, drop_front, FrontsBy};
-ghost use Rattle.engine_state.specs.Stores.{Creates, Drops, IsOfStores, listed_of, listed};
+ghost use Rattle.engine_state.specs.Stores.{Creates, Drops, IsOfStores};
 
 use crate::faults::{CreateFault, DropFault};
 use crate::limits::GREATEST_NUMBER;
@@ -28,15 +28,6 @@ fn is_long(prefix: u64) -> bool
 }
 
 impl<R: Shared> EngineState<R> {
-    /// The live stores, lent, in the order in which they were created. It takes no memory.
-    pub fn stores(&self) -> &[ViewStore<R>]
-        ensures value { result.now ≡ self.now.view.stores }
-        ensures listed { (m : Core) → Serves R.RowSet self.now m
-            → map listed_of result.now ≡ map listed (now m).stores }
-    {
-        self.view.stores()
-    }
-
     /// Whether so many stores are live as may be.
     fn has_most(&self) -> bool
         ensures { result ≡ nat_le self.now.sizes.most_stores (length self.now.view.stores) }
