@@ -87,13 +87,18 @@ fn with_store(
     Ok(back.disk)
 }
 
-/// The bytes of a new device with the `tx` store `t` of id 1 and the `plain` store `s` of id 2.
-pub(crate) fn formed(rt: &impl Abort, alloc: Global) -> Result<Vec<u8>, Fail> {
+/// The bytes of a new device of these sizes with the `tx` store `t` of id 1 and the `plain` store `s` of id 2.
+pub(crate) fn formed_of(rt: &impl Abort, alloc: Global, params: &Params) -> Result<Vec<u8>, Fail> {
     let mut disk = MemDisk::new(alloc);
-    format(alloc, &mut disk, &PARAMS)?;
+    format(alloc, &mut disk, params)?;
     let disk = with_store(rt, alloc, disk, b"t", Mode::Tx)?;
     let disk = with_store(rt, alloc, disk, b"s", Mode::Plain)?;
     Ok(disk.bytes().to_vec(alloc)?)
+}
+
+/// This of the least sizes that there may be.
+pub(crate) fn formed(rt: &impl Abort, alloc: Global) -> Result<Vec<u8>, Fail> {
+    formed_of(rt, alloc, &PARAMS)
 }
 
 /// The engine of a disk.

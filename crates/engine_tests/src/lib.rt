@@ -10,6 +10,8 @@ mod memory;
 #[cfg(test)]
 mod pairs;
 #[cfg(test)]
+mod room;
+#[cfg(test)]
 mod sessions;
 #[cfg(test)]
 mod store_faults;

@@ -86,7 +86,7 @@ fn has_in(
 }
 
 /// A turn is taken, and answers this number at its end.
-fn expect_done(
+pub(crate) fn expect_done(
     rt: &impl Abort,
     alloc: Global,
     db: &mut Kvdb<MemDisk>,
@@ -99,7 +99,7 @@ fn expect_done(
 }
 
 /// No such turn is taken, for this.
-fn expect_refusal(
+pub(crate) fn expect_refusal(
     rt: &impl Abort,
     alloc: Global,
     db: &mut Kvdb<MemDisk>,

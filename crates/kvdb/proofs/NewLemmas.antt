@@ -1,6 +1,6 @@
 -- What preparing a device leaves, and an opening behind it.
 use Rattle.std.specs.Prelude.{Result, Ok, Err, OnOk}
-use Rattle.std.proofs.Common.{◌≡◌, ℕ, ◌≤◌, List, [], ◌∷◌, length, refl, ◌∙◌, ap, subst, arith}
+use Rattle.std.proofs.Common.{◌≡◌, ℕ, ◌≤◌, List, [], ◌∷◌, length, refl, sym, ◌∙◌, ap, subst, arith}
 use Rattle.media_disk.specs.Calls.{Called}
 use Rattle.media_disk.specs.Images.{IsImage, MayLeave}
 use Rattle.media_disk.specs.declared.device.Device.{Ghosts}
@@ -95,6 +95,16 @@ module _ {D : Type 0} (g : Ghosts D) (old new : D) where
       → Prepares g bytes old new result
   prepared_none [] result none has = has
   prepared_none (byte ∷ bytes) result none has = absurd cc
+
+-- its size was told as 0
+pub nothing_seen : {D : Type 0} (g : Ghosts D) (old sized : D) → g.seen sized ≡ g.seen old → length (g.seen sized) ≡ g.extent sized → g.extent sized ≡ 0
+    → length (g.seen old) ≡ 0
+nothing_seen g old sized same long none = ap (λ (l : List ℕ). length l) (sym same) ∙ long ∙ none
+
+-- one that has bytes is not taken for it
+pub none_seen : (A : Type 0) (bytes : List ℕ) → length bytes ≡ 0 → (bytes ≡ [] → ⊥) → A
+none_seen A [] none some = absurd (some refl)
+none_seen A (byte ∷ bytes) none some = absurd cc
 
 pub good_default : AreGood default_params
 good_default = record {

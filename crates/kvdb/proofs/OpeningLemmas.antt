@@ -40,8 +40,8 @@ use Rattle.recovery.specs.declared.fault.OpenFault.{OpenFault}
 use Rattle.recovery.specs.declared.fault.OpenFault.TheVariants.{NotFormed, Version, Device, NoMemory}
 use Rattle.media_disk.specs.Calls.{CallsMade}
 use Rattle.hse_io.specs.Faults.{Rose}
-use Rattle.media_disk.specs.laws.Calls.{calls_joined}
-use Rattle.kvdb.specs.Opening.{LeavesDevice, Prepares}
+use Rattle.media_disk.specs.laws.Calls.{calls_joined, calls_started}
+use Rattle.kvdb.specs.Opening.{AsksSize, LeavesDevice, Prepares}
 use Rattle.kvdb.proofs.NewLemmas.{keeps_started}
 use Rattle.kvdb.specs.Sides.{device_in}
 use Rattle.recovery.specs.declared.recovered.Recovered.{Recovered}
@@ -308,14 +308,18 @@ reports_since A g old between new NoMemory same has = has ∙ same
 
 -- the device behind it was read
 pub left_read : {D : Type 0} (g : Ghosts D) (old between new : D) (fault : OpenFault) → (g.tells → Prepares g (g.seen old) old between (Ok tt))
-    → CallsMade g old between → CallsMade g between new → g.faults between ≡ g.faults old → OpenReports {T = Recovered} g between new (Err fault)
+    → (g.tells → (g.seen old ≡ [] → ⊥) → AsksSize g old between (Ok tt)) → CallsMade g old between → CallsMade g between new → g.faults between ≡ g.faults old → OpenReports {T = Recovered} g between new (Err fault)
     → Keeps g between new → LeavesDevice g old (Err (new, fault))
-left_read {D = D} g old between new fault prepared first second same reports keeps = record {
+left_read {D = D} g old between new fault prepared asked first second same reports keeps = record {
   between = between;
   made = Ok tt;
   prepared = prepared;
+  asked = asked;
+  reached = first;
+  tied = tt;
   new = new;
   left = refl;
+  went_on = second;
   calls = calls_joined g old between new first second;
   reports = reports_since (Kvdb D g) g old between new fault same reports;
   keeps = keeps;
@@ -324,13 +328,17 @@ left_read {D = D} g old between new fault prepared first second same reports kee
 
 -- or it was not prepared
 pub left_unprepared : {D : Type 0} (g : Ghosts D) (old new : D) (fault : OpenFault) → (g.tells → Prepares g (g.seen old) old new (Err fault))
-    → CallsMade g old new → OpenReports {T = Unit {0}} g old new (Err fault) → LeavesDevice g old (Err (new, fault))
-left_unprepared {D = D} g old new fault prepared calls reports = record {
+    → (g.tells → (g.seen old ≡ [] → ⊥) → AsksSize g old new (Err fault)) → CallsMade g old new → OpenReports {T = Unit {0}} g old new (Err fault) → LeavesDevice g old (Err (new, fault))
+left_unprepared {D = D} g old new fault prepared asked calls reports = record {
   between = new;
   made = Err fault;
   prepared = prepared;
+  asked = asked;
+  reached = calls;
+  tied = refl;
   new = new;
   left = refl;
+  went_on = calls_started g new;
   calls = calls;
   reports = reports_same (Unit {0}) (Kvdb D g) g old new fault reports;
   keeps = keeps_started g new;
@@ -339,14 +347,18 @@ left_unprepared {D = D} g old new fault prepared calls reports = record {
 
 -- or the engine began
 pub left_started : {D : Type 0} (g : Ghosts D) (old between new : D) (db : Kvdb D g) (moment : ℕ) → (g.tells → Prepares g (g.seen old) old between (Ok tt))
-    → device_in db.side ≡ Some new → CallsMade g old between → CallsMade g between new → g.faults between ≡ g.faults old
+    → (g.tells → (g.seen old ≡ [] → ⊥) → AsksSize g old between (Ok tt)) → device_in db.side ≡ Some new → CallsMade g old between → CallsMade g between new → g.faults between ≡ g.faults old
     → g.faults new ≡ g.faults between → Keeps g between new → db.moment ≡ moment → IsBarrier g between new moment → LeavesDevice g old (Ok db)
-left_started g old between new db moment prepared left first second same later keeps moment_is barrier = record {
+left_started g old between new db moment prepared asked left first second same later keeps moment_is barrier = record {
   between = between;
   made = Ok tt;
   prepared = prepared;
+  asked = asked;
+  reached = first;
+  tied = tt;
   new = new;
   left = left;
+  went_on = second;
   calls = calls_joined g old between new first second;
   reports = later ∙ same;
   keeps = keeps;

@@ -21,6 +21,13 @@ Closes g m (Err fault.Broken) disk = (m.is_broken ≡ true) × IsUnsure g disk m
 Closes g m (Err fault.Device) disk = (m.is_broken ≡ false) × IsUnsure g disk m
 Closes g m (Err fault.NoMemory) disk = (m.is_broken ≡ false) × IsUnsure g disk m
 
+-- where the engine was broken, or memory was wanting, it is the very disk
+abbrev pub LeavesDisk : {D : Type 0} → D → D → Result ℕ CloseFault → Type 0
+LeavesDisk old new (Ok number) = Unit {0}
+LeavesDisk old new (Err fault.Broken) = new ≡ old
+LeavesDisk old new (Err fault.Device) = Unit {0}
+LeavesDisk old new (Err fault.NoMemory) = new ≡ old
+
 -- a device call failed exactly where the answer says so
 abbrev pub CloseReports : ℕ → ℕ → Result ℕ CloseFault → Type 0
 CloseReports old new (Ok number) = new ≡ old

@@ -1,5 +1,6 @@
 -- How an engine is opened.
-use Rattle.std.specs.Prelude.{◌≡◌, List, [], ◌∷◌, ℕ, Option, Some, Result, Ok, Err, OnOk}
+use Rattle.std.specs.Prelude.{◌≡◌, List, [], ◌∷◌, ℕ, Option, Some, Result, Ok, Err, IfErr, OnOk}
+use Rattle.hse_io.specs.Faults.{next_count}
 use Rattle.media_disk.specs.Calls.{CallsMade}
 use Rattle.media_disk.specs.declared.device.Device.{Ghosts}
 use Rattle.device_layout.specs.declared.layout.Layout.{Layout}
@@ -39,6 +40,14 @@ Prepares g [] old new result =
     OnOk result (IsLoaded (g.seen new) (first_loaded default_layout) × (g.pending new ≡ []))
 Prepares g (byte ∷ bytes) old new result = Keeps g old new
 
+-- A device that has bytes was asked for its size, in one call; out of memory there was none.
+abbrev pub AsksSize : {D : Type 0} (g : Ghosts D) → D → D → Result (Unit {0}) OpenFault → Type 0
+AsksSize g old new (Ok unit) = g.clock new ≡ next_count (g.clock old)
+AsksSize g old new (Err (NotFormed region place)) = ⊥
+AsksSize g old new (Err (Version version)) = ⊥
+AsksSize g old new (Err Device) = g.clock new ≡ next_count (g.clock old)
+AsksSize g old new (Err NoMemory) = new ≡ old
+
 -- ---- openings
 
 -- The image is formed, and the engine begins a life at what it stores.
@@ -69,13 +78,17 @@ HasBarrier g between new (Ok db) = IsBarrier g between new db.moment
 HasBarrier g between new (Err (disk, fault)) = Unit {0}
 
 -- What an opening does to the device: it is prepared, and then nothing is written behind a barrier. It failed exactly where
--- the answer says so.
+-- the answer says so. A fault of the first part is the answer.
 pub record LeavesDevice {D : Type 0} (g : Ghosts D) (old : D) (result : Result (Kvdb D g) (D × OpenFault)) : Type 0 where
   pub between : D
   pub made : Result (Unit {0}) OpenFault
   pub prepared : g.tells → Prepares g (g.seen old) old between made
+  pub asked : g.tells → (g.seen old ≡ [] → ⊥) → AsksSize g old between made
+  pub reached : CallsMade g old between
+  pub tied : IfErr made (λ fault. ended_as result ≡ Err fault)
   pub new : D
   pub left : left_by result ≡ Some new
+  pub went_on : CallsMade g between new
   pub calls : CallsMade g old new
   pub reports : OpenReports g old new (ended_as result)
   pub keeps : Keeps g between new

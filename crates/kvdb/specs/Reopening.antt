@@ -11,6 +11,7 @@ use Rattle.recovery.specs.Answers.{OpenReports}
 use Rattle.recovery.specs.Keeps.{Keeps}
 use Rattle.recovery.specs.declared.fault.OpenFault.{OpenFault}
 use Rattle.recovery.specs.declared.fault.OpenFault.TheVariants.{NotFormed, Version, Device, NoMemory}
+use Rattle.back.specs.declared.back.Back.{Back}
 use Rattle.kvdb.specs.Found.{stored_at}
 use Rattle.kvset.specs.Reading.{Contents}
 use Rattle.engine_state.specs.Serves as state
@@ -77,3 +78,15 @@ pub record ReadsDevice {D : Type 0} (g : Ghosts D) (old : D) (left : Side D g) (
 abbrev pub LeavesSide : {D : Type 0} (g : Ghosts D) → Side D g → Side D g → Result ℕ ReopenFault → Type 0
 LeavesSide g (side.In back) new result = ReadsDevice g back.disk new result
 LeavesSide g (side.Out what number) new result = new ≡ side.Out what number
+
+-- its places are those of before
+pub record HasPlacesOf {D : Type 0} {g : Ghosts D} (old new : Back D g) : Type 0 where
+  pub layout : new.layout ≡ old.layout
+  pub log : new.log ≡ old.log
+  pub manifest : new.manifest ≡ old.manifest
+
+-- A device side is the one of before, but for its disk where it is in.
+abbrev pub IsSameSide : {D : Type 0} {g : Ghosts D} → Side D g → Side D g → Type 0
+IsSameSide (side.In old) (side.In new) = HasPlacesOf old new
+IsSameSide (side.In old) (side.Out what number) = ⊥
+IsSameSide (side.Out what number) new = new ≡ side.Out what number

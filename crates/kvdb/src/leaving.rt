@@ -5,7 +5,7 @@ ghost use Rattle.media_disk.specs.Leaves.{LeavesOnly};
 ghost use Rattle.hse_rows.specs.machine.Core.{Core, number_of};
 ghost use Rattle.engine_state.specs.Serves.{IsSound};
 ghost use Rattle.kvdb.specs.Found.{StoresFrom};
-ghost use Rattle.kvdb.specs.Leaving.{Closes, CloseReports};
+ghost use Rattle.kvdb.specs.Leaving.{Closes, CloseReports, LeavesDisk};
 ghost use Rattle.kvdb.specs.Serves.{Serves};
 ghost use Rattle.kvdb.specs.Sides.{device_in};
 
@@ -66,8 +66,9 @@ impl<D: Disk> Kvdb<D> {
     }
 
     /// Makes all safe and gives the disk back: what waits is written as a sync does. `Broken` comes
-    /// exactly where the engine is broken, and `Device` only where a device call failed. Whenever the
-    /// device stops within, it stores the life at a number from the safe one on.
+    /// exactly where the engine is broken, and `Device` exactly where a device call failed. Broken or out
+    /// of memory the disk is as it was, with no device call. Whenever the device stops within, it stores
+    /// the life at a number from the safe one on.
     ///
     /// The condition: no turn is out.
     pub fn close(self, alloc: Global) -> Closed<D>
@@ -80,6 +81,8 @@ impl<D: Disk> Kvdb<D> {
         ensures calls { IfSome (device_in self.side) (λ disk. CallsMade D.Device disk result.disk) }
         ensures reports { IfSome (device_in self.side)
             (λ disk. CloseReports (D.faults disk) (D.faults result.disk) result.result) }
+        ensures untouched { IfSome (device_in self.side)
+            (λ disk. LeavesDisk disk result.disk result.result) }
     {
         let mut engine = self;
         if engine.state.is_broken() {

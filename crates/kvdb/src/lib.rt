@@ -21,6 +21,7 @@ mod taking;
 mod turn;
 
 pub use engine::Kvdb;
+pub use engine_state::{BeginFault, CommitFault, CursorPlace, CursorsFull, WriteFault};
 pub use figures::Info;
 pub use laws::engines_begin_sound_lives;
 pub use leaving::{CloseFault, Closed};

@@ -1,8 +1,8 @@
 //! An empty device is made a new one.
-ghost use Rattle.std.specs.Prelude.{IfErr};
+ghost use Rattle.std.specs.Prelude.{◌≡◌, [], IfErr};
 ghost use Rattle.media_disk.specs.Calls.{CallsMade};
 ghost use Rattle.recovery.specs.Answers.{OpenReports};
-ghost use Rattle.kvdb.specs.Opening.{IsOfDevice, Prepares};
+ghost use Rattle.kvdb.specs.Opening.{AsksSize, IsOfDevice, Prepares};
 
 use device_layout::Params;
 use media_disk::Disk;
@@ -22,6 +22,8 @@ const DEFAULT: Params = Params {
 /// Makes an empty device a new one with the default parameters, and leaves another one as it is.
 pub(crate) fn prepare<D: Disk>(alloc: Global, disk: &mut D) -> Result<(), OpenFault>
     ensures prepared { D.tells → Prepares D.Device (D.seen disk.old) disk.old disk.new result }
+    ensures asked { D.tells → (D.seen disk.old ≡ [] → ⊥)
+        → AsksSize D.Device disk.old disk.new result }
     ensures fault { IfErr result IsOfDevice }
     ensures calls { CallsMade D.Device disk.old disk.new }
     ensures reports { OpenReports D.Device disk.old disk.new result }

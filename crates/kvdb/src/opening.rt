@@ -95,11 +95,11 @@ fn opened<D: Disk>(alloc: Global, disk: D, recovered: Recovered) -> Result<Kvdb<
 }
 
 impl<D: Disk> Kvdb<D> {
-    /// Opens a device. An empty one is made a new one with the default parameters first. Then comes a
-    /// barrier, and what it stores, as `recover` reads it, and the engine begins a life there. `NotFormed`
-    /// and `Version` come exactly where `recover` answers them of this device, and `Device` only where the
-    /// device failed; then the disk comes back with the fault. Nothing is written to a device that has
-    /// bytes.
+    /// Opens a device. It is asked for its size, and an empty one is made a new one with the default
+    /// parameters. Then comes a barrier, and what it stores, as `recover` reads it, and the engine begins a
+    /// life there. `NotFormed` and `Version` come exactly where `recover` answers them of this device, and
+    /// `Device` exactly where the device failed; then the disk comes back with the fault. To a device that
+    /// has bytes nothing is written, and the barrier is its second call.
     pub fn start(alloc: Global, disk: D) -> Result<Kvdb<D>, (D, OpenFault)>
         ensures opens { D.tells → Opens D.Device (D.seen disk) result }
         ensures device { LeavesDevice D.Device disk result }

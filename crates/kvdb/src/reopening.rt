@@ -10,7 +10,7 @@ ghost use Rattle.engine_state.specs.Serves.{IsSound};
 ghost use Rattle.recovery.specs.Answers.{HasParts, IsRecovery, OpenReports};
 ghost use Rattle.recovery.specs.Keeps.{IsBarrier, Keeps};
 ghost use Rattle.kvdb.specs.Found.{StoresFrom};
-ghost use Rattle.kvdb.specs.Reopening.{Reopens, IsNoted, LeavesSide, last_left};
+ghost use Rattle.kvdb.specs.Reopening.{Reopens, IsNoted, IsSameSide, LeavesSide, last_left};
 ghost use Rattle.kvdb.specs.Serves.{of_sets, Serves};
 ghost use Rattle.kvdb.specs.Sides.{device_in};
 
@@ -84,8 +84,10 @@ impl<D: Disk> Kvdb<D> {
     /// Drops the state in memory and opens the device again, as after a sudden end: transactions,
     /// cursors and commits that are not on the device are gone. The answer is the number at which the
     /// new life begins: the safe one, or where a device call had failed one from there up to the last.
-    /// `Busy` comes exactly where a turn is out. `Open` is what the opening answers, and `Device` comes
-    /// only where the device failed: then the engine is broken. After another fault it is as before.
+    /// `Busy` comes exactly where a turn is out. `Open` is what the opening answers: `Device` exactly where
+    /// the device failed, and then the engine is broken; `NotFormed` and `Version` never where the device
+    /// tells its content, since it is formed. After another fault than `Device` the engine is as before,
+    /// but for its disk's clock.
     pub fn reopen(&mut self, alloc: Global) -> Result<u64, ReopenFault>
         ensures reopens { (m : Core) → IsSound m → Serves D.Device self.old m
             → Reopens D.Device m result self.new }
@@ -96,6 +98,7 @@ impl<D: Disk> Kvdb<D> {
         ensures barrier { IfOk result (λ _. IfSome (device_in self.old.side)
             (λ old. IfSome (device_in self.new.side)
             (λ new. IsBarrier D.Device old new self.new.moment))) }
+        ensures same { OnErr result (IsSameSide self.old.side self.new.side) }
         ensures kept { OnErr result (self.new.moment ≡ self.old.moment) }
     {
         images_have_one_loading();

@@ -100,6 +100,9 @@ impl<D: Disk> Kvdb<D> {
     /// Where it made writes, `Broken` comes exactly where the engine is broken, else `Spent` exactly
     /// where the last number is 2^62, else `LogFull` exactly where the segment has less room left than
     /// the commit takes, with both. After a fault engine and transaction are as before.
+    ///
+    /// This is promised of a transaction that this engine began since its last opening. Of another one,
+    /// whose life ended without its writes, nothing is: do not commit it.
     pub fn commit(&mut self, alloc: Global, txn: &mut Txn<Kvset>) -> Result<u64, CommitFault>
         ensures step { (m : Core) (transaction : Transaction) → IsSound m → Serves D.Device self.old m
             → IsTxnOf of_sets txn.old m.timeline transaction
@@ -117,7 +120,10 @@ impl<D: Disk> Kvdb<D> {
     }
 
     /// Ends a transaction without its writes. A fault says how it ended before, and comes exactly where
-    /// it did. It takes no memory.
+    /// it did; then the transaction is as before. It takes no memory.
+    ///
+    /// This is promised of a transaction that this engine began since its last opening. One of an
+    /// earlier life has ended with it, and may be dropped as it is.
     pub fn abort(&mut self, txn: &mut Txn<Kvset>) -> Result<(), TxnState>
         ensures step { (m : Core) (transaction : Transaction) → IsSound m → Serves D.Device self.old m
             → IsTxnOf of_sets txn.old m.timeline transaction
@@ -145,6 +151,9 @@ impl<D: Disk> Kvdb<D> {
     }
 
     /// A cursor is gone. It takes no memory.
+    ///
+    /// This is promised of a place that this engine gave since its last opening, which has taken all
+    /// earlier ones back.
     pub fn give_place(&mut self, place: CursorPlace)
         ensures step { (m : Core) → IsSound m → Serves D.Device self.old m
             → Serves D.Device self.new (done m call.give_place) }

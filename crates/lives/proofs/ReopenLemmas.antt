@@ -4,6 +4,7 @@ use Rattle.std.proofs.Common.{◌≡◌, ℕ, ◌+◌, ◌-◌, ◌^◌, ◌<◌
 use Rattle.std.proofs.lemmas.List.{length-take}
 use Rattle.hse_io.specs.declared.outcome.Mark.{Mark}
 use Rattle.media_disk.specs.Leaves.{LeavesOnly}
+use Rattle.media_disk.specs.laws.Calls.{calls_started}
 use Rattle.media_disk.specs.declared.device.Device.{Ghosts}
 use Rattle.hse_rows.specs.states.State.{State}
 use Rattle.hse_rows.specs.states.History.{Event, fold, last_number}
@@ -172,9 +173,13 @@ untouched g disk = record {
   between = disk;
   made = Err NoMemory;
   prepared = λ told. by (g.seen disk);
+  asked = λ told some. refl;
+  reached = calls_started g disk;
+  tied = refl;
   new = disk;
   left = refl;
-  calls = record { forward = omega arith; later = omega arith; same = refl };
+  went_on = calls_started g disk;
+  calls = calls_started g disk;
   reports = refl;
   keeps = keeps_same g disk;
   barrier = tt;
